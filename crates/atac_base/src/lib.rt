@@ -1,0 +1,9 @@
+//! Places, events and facts, and the outside: shelves that hold bytes under names, sinks that take bytes.
+#![tactic(auto)]
+
+pub mod facts;
+pub mod items;
+pub mod memory;
+pub mod outside;
+pub mod place;
+pub mod probes;

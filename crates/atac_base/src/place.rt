@@ -1,0 +1,30 @@
+/// A place in a text. Both numbers count from 1; a column counts bytes.
+#[derive(Clone, Copy, Debug, PartialEq, Eq)]
+pub struct Pos {
+    pub line: u32,
+    pub col: u32,
+}
+
+/// A cell of an object: the number of the object's instance, and the cell's index in it, from 0.
+#[derive(Clone, Copy, Debug, PartialEq, Eq)]
+pub struct Cell {
+    pub instance: u64,
+    pub index: u32,
+}
+
+/// The integer types (C89, 3.1.2.5): char has 8 bits, short 16, int 32 and long 64.
+#[derive(Clone, Copy, Debug, PartialEq, Eq)]
+pub enum IntKind {
+    Char,
+    Short,
+    Int,
+    Long,
+    UChar,
+    UShort,
+    UInt,
+    ULong,
+}
+
+/// Memory was wanted and not found.
+#[derive(Clone, Copy, Debug, PartialEq, Eq)]
+pub struct NoMemory;
