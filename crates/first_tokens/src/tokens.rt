@@ -1,4 +1,4 @@
-ghost use Rattle.std.specs.Prelude.{◌≡◌, ◌+◌, ◌<◌, ◌≤◌, ◌^◌, [], ◌∷◌, ◌++◌, length, Some, None, OnOk, IfOk, IfErr, IsErrOf, option_map};
+ghost use Rattle.std.specs.Prelude.{◌≡◌, ◌+◌, ◌<◌, ◌≤◌, ◌^◌, [], ◌∷◌, ◌++◌, length, Some, None, OnOk, IfOk, IfErr, IsErrOf, IfSome, option_map, vec_len};
 ghost use Rattle.first_tokens.specs.Tokens.{moved, Refused, given, given_of, size_of, added, tokens_of, Cuts, begin};
 ghost use Rattle.first_tokens.specs.Pieces.{HasLength};
 ghost use Rattle.c_tree.specs.declared.token.Token.{Token};
@@ -87,6 +87,7 @@ fn length_of(piece: Piece) -> usize
 fn put(out: &mut Vec<Token>, kind: Option<TokenKind>, pos: Pos) -> Result<(), Stop>
     ensures ok { OnOk result (added out.old.items pos (given_of kind) ≡ Some out.new.items) }
     ensures refused { IsErrOf result Stop.Refused → added out.old.items pos (given_of kind) ≡ None }
+    ensures few { OnOk result (vec_len out.old ≤ 100000 → vec_len out.new ≤ 100000) }
 {
     let Some(kind) = kind else {
         return Ok(());
@@ -106,6 +107,7 @@ fn cut(alloc: Global, text: &[u8]) -> Result<Vec<Token>, Stop>
     requires { length text.now ≤ 67108864 }
     ensures ok { IfOk result (λ v. Cuts text.now begin [] (Some v.items)) }
     ensures refused { IsErrOf result Stop.Refused → Cuts text.now begin [] None }
+    ensures few { IfOk result (λ v. vec_len v ≤ 100000) }
 {
     let mut out = Vec::new(alloc);
     let mut rest = text;
@@ -125,7 +127,8 @@ fn cut(alloc: Global, text: &[u8]) -> Result<Vec<Token>, Stop>
 #[tactic(auto, using(crate::proofs::Cutting::cut_whole))]
 pub fn tokens(alloc: Global, text: &[u8]) -> Result<Option<Vec<Token>>, NoMemory>
     requires { length text.now ≤ 67108864 }
-    ensures { IfOk result (λ r. tokens_of text.now ≡ option_map (λ v. v.items) r) }
+    ensures tokens { IfOk result (λ r. tokens_of text.now ≡ option_map (λ v. v.items) r) }
+    ensures few { IfOk result (λ r. IfSome r (λ v. vec_len v ≤ 100000)) }
 {
     match cut(alloc, text) {
         Ok(tokens) => Ok(Some(tokens)),

@@ -1,0 +1,10 @@
+int main(void)
+{
+    int i = 0;
+    int j = 0;
+    while (i < 100000000) {
+        j = j < i;
+        i = i + 1;
+    }
+    return j;
+}

@@ -1,0 +1,54 @@
+use atac_base::memory::{MemoryShelf, MemorySink};
+use atac_base::outside::Shelf;
+use atac_top::status::Status;
+use atac_top::top::atac;
+use std::alloc::{AllocError, Global};
+
+/// What a call left.
+#[derive(Drop)]
+pub struct Left {
+    pub status: Status,
+    pub out: MemorySink,
+    pub err: MemorySink,
+}
+
+/// Which fetches and puts of a call fail, counted from 1.
+#[derive(Clone, Copy)]
+pub struct Fails {
+    pub fetch: u64,
+    pub put: u64,
+    pub tell: u64,
+}
+
+/// No call fails.
+pub const NONE: Fails = Fails {
+    fetch: 0,
+    put: 0,
+    tell: 0,
+};
+
+fn only(alloc: Global, n: u64) -> Result<Vec<u64>, AllocError> {
+    let mut which = Vec::new(alloc);
+    which.push(n)?;
+    Ok(which)
+}
+
+/// `cover p e` over a shelf that holds a program under `p` and an input under `e`.
+pub fn cover(
+    alloc: Global,
+    program: &[u8],
+    input: &[u8],
+    fails: Fails,
+) -> Result<Left, AllocError> {
+    let mut words = Vec::new(alloc);
+    words.push(String::from_str(alloc, "cover")?)?;
+    words.push(String::from_str(alloc, "p")?)?;
+    words.push(String::from_str(alloc, "e")?)?;
+    let mut shelf = MemoryShelf::new(alloc, only(alloc, fails.fetch)?, Vec::new(alloc));
+    let _ = shelf.keep("p", program);
+    let _ = shelf.keep("e", input);
+    let mut out = MemorySink::new(alloc, only(alloc, fails.put)?);
+    let mut err = MemorySink::new(alloc, only(alloc, fails.tell)?);
+    let status = atac(alloc, &words, &mut shelf, &mut out, &mut err);
+    Ok(Left { status, out, err })
+}

@@ -1,0 +1,13 @@
+//! Tests across the crates, over shelves and sinks in memory.
+#![tactic(auto)]
+
+#[cfg(test)]
+mod arithmetic;
+#[cfg(test)]
+mod calls;
+#[cfg(test)]
+mod machine;
+#[cfg(test)]
+mod store;
+#[cfg(test)]
+mod tests;

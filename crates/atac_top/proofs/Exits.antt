@@ -1,0 +1,135 @@
+-- The ways out of a command: at a fetch, at a program that isn't understood, at a put, for want of memory, and at its end.
+use Rattle.std.proofs.Common.{◌≡◌, inl, inr, refl, ap, sym, ◌∙◌, List, [], ◌∷◌, ◌++◌, ℕ, ◌-◌, Option, None, Some, take, append_assoc, append-nil}
+use Rattle.std.specs.Prelude.{slice_get, Result, Ok, Err}
+use Rattle.std.specs.Io.KnownBytes.{append_known}
+use Rattle.atac_base.specs.Outside.{ShelfState, SinkState, IsFront}
+use Rattle.atac_top.specs.Words.{Command}
+use Rattle.atac_top.specs.Ends.{End, IsDone, BadWords, NotAccepted, NotHeld, TooLong, ReadFailed, WriteFailed, OutOfMemory}
+use Rattle.atac_top.specs.Answers.{Answer, asked, names, joined, text, refused, gets, Stops}
+use Rattle.atac_top.specs.Grows.{ShelfGrows, SinkGrows}
+use Rattle.c_tree.specs.Shape.{UnitShape}
+use Rattle.atac_top.specs.Runs.{AllAgree, StaysBut, Comes, Keeps, Understands, Breaks, Goes}
+use Rattle.atac_top.specs.Steps.{FetchStops, PutStops, Puts}
+use Rattle.atac_top.specs.Stops.{end_of, ended}
+use Rattle.atac_top.specs.declared.stop.Stop.{Stop}
+use Rattle.atac_top.proofs.Growing.{rose_since, sink_stays}
+
+pub known_nothing : (known : Option (List ℕ)) → known ≡ append_known known []
+known_nothing None = refl
+known_nothing (Some bytes) = ap Some (sym (append-nil bytes))
+
+pub known_twice : (known : Option (List ℕ)) (a b : List ℕ) → append_known (append_known known a) b ≡ append_known known (a ++ b)
+known_twice None a b = refl
+known_twice (Some bytes) a b = ap Some (append_assoc bytes a b)
+
+stays : (kept : Option (List ℕ × List ℕ)) (shelf shelf' : ShelfState) → shelf'.says ≡ shelf.says → StaysBut kept shelf shelf'
+stays None shelf shelf' same = same
+stays (Some kept) shelf shelf' same = λ other ne. ap (λ f. f other) same
+
+pub front_of : (before piece after front all : List ℕ) → IsFront front piece → all ≡ before ++ (piece ++ after) → IsFront (before ++ front) all
+front_of before piece after front all h whole = (h.0 ++ after, whole ∙ rw h.1 (simp append_assoc))
+
+module _ (asked_for : Option Command) (shelf shelf' : ShelfState) (out out' : SinkState) (found : List (Option (List ℕ))) (agrees : AllAgree shelf.says (names asked_for) found)
+    (understood : Option UnitShape) (is_understood : Understands (names asked_for) found understood)
+    (same : shelf'.says ≡ shelf.says) (shelf_grows : ShelfGrows shelf shelf') (out_grows : SinkGrows out out') where
+  goes : (e : End) (put : List ℕ) → Comes shelf shelf' out out' (names asked_for) (asked asked_for understood found) e put → Keeps (asked asked_for understood found).kept e shelf shelf' → out'.bytes ≡ append_known out.bytes put → Goes asked_for shelf shelf' out out' e
+  goes e put comes keeps bytes =
+      record { found = found; put = put; agrees = agrees; comes = inr (record { understood = understood; is = is_understood; comes = comes; keeps = keeps }); bytes = bytes; shelf_grows = shelf_grows; out_grows = out_grows }
+
+  -- want of memory after some whole sections
+  pub wants_memory : (k : ℕ) (put : List ℕ) → put ≡ joined (take k (asked asked_for understood found).sections) → out'.bytes ≡ append_known out.bytes put → Goes asked_for shelf shelf' out out' OutOfMemory
+  wants_memory k put front bytes =
+      goes _ put (inl (k, front)) (stays _ shelf shelf' same) bytes
+
+  -- P isn't understood
+  pub not_accepted : (file : List ℕ) → asked asked_for understood found ≡ refused [] (NotAccepted file) → out'.bytes ≡ append_known out.bytes [] → Goes asked_for shelf shelf' out out' (NotAccepted file)
+  not_accepted file is bytes =
+      goes _ [] ((sym (ap (λ (a : Answer). a.end) is), sym (ap (λ (a : Answer). text a) is))) same bytes
+
+  -- the fetch number k stops
+  pub fetch_stops : (k : ℕ) (name : List ℕ) (most : ℕ) (f : Option (List ℕ)) (mid : ShelfState) (put : List ℕ) (e : End)
+      → FetchStops mid shelf' name most f e
+      → slice_get (names asked_for) k ≡ Some name
+      → ShelfGrows shelf mid
+      → (gets name most f ≡ Stops e → (e ≡ (asked asked_for understood found).end) × (put ≡ text (asked asked_for understood found)))
+      → put ≡ joined (take (k - 1) (asked asked_for understood found).sections)
+      → out'.bytes ≡ append_known out.bytes put
+      → Goes asked_for shelf shelf' out out' e
+  fetch_stops k name most f mid put (NotHeld file) h at grows is front bytes =
+      goes _ put (is h) same bytes
+  fetch_stops k name most f mid put (TooLong file) h at grows is front bytes =
+      goes _ put (is h) same bytes
+  fetch_stops k name most f mid put (ReadFailed file) h at grows is front bytes =
+      goes _ put ((rose_since _ _ _ grows.read_faults h.1, (k, at ∙ ap Some (sym h.0), front))) same bytes
+  fetch_stops k name most f mid put OutOfMemory h at grows is front bytes = wants_memory (k - 1) put front bytes
+  fetch_stops k name most f mid put IsDone h at grows is front bytes = absurd h
+  fetch_stops k name most f mid put BadWords h at grows is front bytes = absurd h
+  fetch_stops k name most f mid put (NotAccepted file) h at grows is front bytes = absurd h
+  fetch_stops k name most f mid put WriteFailed h at grows is front bytes = absurd h
+
+  -- a put stops, after the text `before` and a front of its piece
+  pub put_stops : (mid : SinkState) (before front : List ℕ) (e : End)
+      → PutStops mid out' e
+      → IsFront (before ++ front) (text (asked asked_for understood found))
+      → mid.bytes ≡ append_known out.bytes before → out'.bytes ≡ append_known mid.bytes front
+      → SinkGrows out mid
+      → Goes asked_for shelf shelf' out out' e
+  put_stops mid before front WriteFailed h is_front first second grows =
+      goes _ (before ++ front) ((rose_since _ _ _ grows.faults h, is_front)) same (rw second (rw first (known_twice out.bytes before front)))
+  put_stops mid before front OutOfMemory h is_front first second grows =
+      goes _ (before ++ front) (inr (inr (rose_since _ _ _ grows.wants h, is_front))) (stays _ shelf shelf' same) (rw second (rw first (known_twice out.bytes before front)))
+  put_stops mid before front IsDone h is_front first second grows = absurd h
+  put_stops mid before front BadWords h is_front first second grows = absurd h
+  put_stops mid before front (NotAccepted file) h is_front first second grows = absurd h
+  put_stops mid before front (NotHeld file) h is_front first second grows = absurd h
+  put_stops mid before front (TooLong file) h is_front first second grows = absurd h
+  put_stops mid before front (ReadFailed file) h is_front first second grows = absurd h
+
+  -- a put in the midst of the text
+  pub put_breaks : (mid : SinkState) (before piece after : List ℕ) (stop : Stop)
+      → Puts mid out' piece (Err stop)
+      → text (asked asked_for understood found) ≡ before ++ (piece ++ after)
+      → mid.bytes ≡ append_known out.bytes before
+      → SinkGrows out mid
+      → Goes asked_for shelf shelf' out out' (end_of stop)
+  put_breaks mid before piece after stop h whole first grows =
+      put_stops mid before h.gives.0.0 (end_of stop) h.gives.1 (front_of before piece after _ _ h.gives.0.1 whole) first h.gives.0.2 grows
+
+  -- a put, as the last step
+  pub put_ends : (mid : SinkState) (before piece : List ℕ) (r : Result (Unit {0}) Stop)
+      → Puts mid out' piece r
+      → (asked asked_for understood found).end ≡ IsDone → (asked asked_for understood found).kept ≡ None → text (asked asked_for understood found) ≡ before ++ piece
+      → mid.bytes ≡ append_known out.bytes before
+      → SinkGrows out mid
+      → Goes asked_for shelf shelf' out out' (ended r)
+  put_ends mid before piece (Ok x) h done kept whole first grows =
+      goes _ (before ++ piece) ((sym done, sym whole)) (rw kept (same, tt)) (rw h.gives (rw first (known_twice out.bytes before piece)))
+  put_ends mid before piece (Err stop) h done kept whole first grows =
+      put_breaks mid before piece [] stop h (whole ∙ ap (λ xs. before ++ xs) (sym (append-nil piece))) first grows
+
+-- the program's own fetch stops
+module _ (asked_for : Option Command) (shelf shelf' : ShelfState) (out : SinkState) (f : Option (List ℕ)) (others : List (Option (List ℕ))) (agrees : AllAgree shelf.says (names asked_for) (f ∷ others)) (same : shelf'.says ≡ shelf.says) (grows : ShelfGrows shelf shelf') where
+  breaks : (e : End) → Breaks shelf shelf' (names asked_for) e [] → Goes asked_for shelf shelf' out out e
+  breaks e h = record { found = f ∷ others; put = []; agrees = agrees; comes = inl h; bytes = known_nothing _; shelf_grows = grows; out_grows = sink_stays _ }
+
+  -- memory was wanted before the program was understood
+  pub wants_at_once : Goes asked_for shelf shelf' out out OutOfMemory
+  wants_at_once = breaks OutOfMemory (refl, same)
+
+  stops_at : (e : End) → Understands (names asked_for) (f ∷ others) None → asked asked_for None (f ∷ others) ≡ refused [] e → Comes shelf shelf' out out (names asked_for) (refused [] e) e [] → Keeps None e shelf shelf' → Goes asked_for shelf shelf' out out e
+  stops_at e u is comes keeps =
+      record { found = f ∷ others; put = []; agrees = agrees; comes = inr (record { understood = None; is = u; comes = rw is comes; keeps = rw is keeps }); bytes = known_nothing _; shelf_grows = grows; out_grows = sink_stays _ }
+
+  pub program_stops : (name : List ℕ) (most : ℕ) (e : End)
+      → FetchStops shelf shelf' name most f e
+      → slice_get (names asked_for) 0 ≡ Some name
+      → (gets name most f ≡ Stops e → Understands (names asked_for) (f ∷ others) None × (asked asked_for None (f ∷ others) ≡ refused [] e))
+      → Goes asked_for shelf shelf' out out e
+  program_stops name most (NotHeld file) h at is = stops_at _ (is h).0 (is h).1 (refl, refl) same
+  program_stops name most (TooLong file) h at is = stops_at _ (is h).0 (is h).1 (refl, refl) same
+  program_stops name most (ReadFailed file) h at is = breaks _ (h.1, at ∙ ap Some (sym h.0), refl, same)
+  program_stops name most OutOfMemory h at is = wants_at_once
+  program_stops name most IsDone h at is = absurd h
+  program_stops name most BadWords h at is = absurd h
+  program_stops name most (NotAccepted file) h at is = absurd h
+  program_stops name most WriteFailed h at is = absurd h

@@ -1,0 +1,9 @@
+pub mod Asked
+pub mod Claims
+pub mod Exits
+pub mod Found
+pub mod Growing
+pub mod Lines
+pub mod Plain
+pub mod Reading
+pub mod Running

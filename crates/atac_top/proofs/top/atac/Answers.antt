@@ -1,0 +1,45 @@
+-- The whole runs at the three ends, and completeness from the run.
+use Rattle.std.proofs.Common.{refl, inl, inr, [], None}
+use Rattle.atac_top.specs.Ends.{IsDone, BadWords}
+use Rattle.atac_top.specs.Stops.{command_of, end_of}
+use Rattle.atac_top.proofs.Claims.{complete_for, shows}
+use Rattle.atac_top.proofs.Reading.{one_program}
+use Rattle.atac_top.proofs.Exits.{known_nothing}
+use Rattle.atac_top.proofs.Growing.{shelf_stays, sink_stays}
+use Rattle.atac_top.proofs.top.atac.Goals as goal
+
+pub returns-in_default-clause-runs : goal.returns-in_default-clause-runs
+returns-in_default-clause-runs g c =
+    rw (← c.in_default.ensures) (record {
+      end = BadWords;
+      status_is = refl;
+      goes = record { found = []; put = []; agrees = tt; comes = inr (record { understood = None; is = tt; comes = (refl, refl); keeps = refl }); bytes = known_nothing _; shelf_grows = shelf_stays _; out_grows = sink_stays _ };
+      tells = c.put_four.ensures;
+    })
+
+pub returns-in-Ok-clause-runs : goal.returns-in-Ok-clause-runs
+returns-in-Ok-clause-runs g c =
+    rw (← c.in-Some.ensures) (record {
+      end = IsDone;
+      status_is = refl;
+      goes = c.in-Ok.ensures;
+      tells = record { put = []; bytes = known_nothing _; whole = inl refl; grows = sink_stays _ };
+    })
+
+pub returns-in-Err-clause-complete : goal.returns-in-Err-clause-complete
+returns-in-Err-clause-complete g c =
+    rw (← c.in-Some.ensures) (complete_for (command_of c.in-Some.asked) _ _ _ _ (g.E.Sink.state c.args.err.now) (g.E.Sink.state c.tell.new.err) _
+    (record { end = end_of c.in-Err.stop; status_is = c.status.ensures.status; goes = c.in-Err.ensures; tells = c.tell.ensures }))
+
+pub returns-in-Ok-clause-headline : goal.returns-in-Ok-clause-headline
+returns-in-Ok-clause-headline g c = λ is.
+    rw (← c.in-Some.ensures) (shows one_program (command_of c.in-Some.asked) _ _ _ _ IsDone c.in-Ok.ensures refl)
+
+pub returns-in_default-clause-one_program : goal.returns-in_default-clause-one_program
+returns-in_default-clause-one_program g c = one_program
+
+pub returns-in-Ok-clause-one_program : goal.returns-in-Ok-clause-one_program
+returns-in-Ok-clause-one_program g c = one_program
+
+pub returns-in-Err-clause-one_program : goal.returns-in-Err-clause-one_program
+returns-in-Err-clause-one_program g c = one_program

@@ -1,0 +1,47 @@
+-- How a call can end: its status, and the line that it puts to the error sink.
+use Rattle.std.specs.Prelude.{ℕ, List, [], ◌∷◌, ◌++◌, codes}
+use Rattle.atac_top.specs.declared.status.Status.{Status}
+use Rattle.atac_top.specs.declared.status.Status.TheVariants.{Done, Usage, Refused, Absent, Long, ReadFault, WriteFault, NoMemory}
+
+pub data End : Type 0 where
+  IsDone : End
+  BadWords : End
+  NotAccepted : (file : List ℕ) → End
+  NotHeld : (file : List ℕ) → End
+  TooLong : (file : List ℕ) → End
+  ReadFailed : (file : List ℕ) → End
+  WriteFailed : End
+  OutOfMemory : End
+
+abbrev pub status_of : End → Status
+status_of IsDone = Done
+status_of BadWords = Usage
+status_of (NotAccepted file) = Refused
+status_of (NotHeld file) = Absent
+status_of (TooLong file) = Long
+status_of (ReadFailed file) = ReadFault
+status_of WriteFailed = WriteFault
+status_of OutOfMemory = NoMemory
+
+-- The two parts of the line between `atac: ` and the newline: a file's name, and what is said of it.
+abbrev pub file_of : End → List ℕ
+file_of (NotAccepted file) = file
+file_of (NotHeld file) = file
+file_of (TooLong file) = file
+file_of (ReadFailed file) = file
+file_of end = []
+
+abbrev pub said_of : End → List ℕ
+said_of IsDone = []
+said_of BadWords = codes "bad usage"
+said_of (NotAccepted file) = codes ":1:1: 29 NotYet"
+said_of (NotHeld file) = codes ": absent"
+said_of (TooLong file) = codes ": too long"
+said_of (ReadFailed file) = codes ": read fault"
+said_of WriteFailed = codes "write fault"
+said_of OutOfMemory = codes "no memory"
+
+-- The line, with its newline. A call that is done puts none.
+abbrev pub line_of : End → List ℕ
+line_of IsDone = []
+line_of end = codes "atac: " ++ (file_of end ++ (said_of end ++ 10 ∷ []))

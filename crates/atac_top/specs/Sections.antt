@@ -1,0 +1,30 @@
+-- The text of one run: the input's name, the output, and how the run ended.
+use Rattle.std.specs.Prelude.{ℕ, List, [], ◌∷◌, ◌++◌, length, codes}
+use Rattle.std.specs.Fmt.{decimal, signed_decimal}
+use Rattle.c_machine.specs.declared.end.Fault.{Fault}
+use Rattle.c_machine.specs.declared.end.Fault.TheVariants.{Overflow, Uninitialised, NoResult}
+use Rattle.c_machine.specs.declared.end.End.{End}
+use Rattle.c_machine.specs.declared.end.End.TheVariants as end
+use Rattle.c_machine.specs.Run.{Outcome}
+
+-- a fault's number and name
+abbrev pub fault_text : Fault → List ℕ
+fault_text Overflow = codes "2 Overflow"
+fault_text Uninitialised = codes "7 Uninitialised"
+fault_text NoResult = codes "10 NoResult"
+
+abbrev pub end_text : End → List ℕ
+end_text (end.Returned v) = codes "returned " ++ signed_decimal v
+end_text (end.Fault fault function) = codes "fault " ++ (fault_text fault ++ (codes " in " ++ function))
+end_text end.Turns = codes "turn limit"
+
+-- == END turns T bytes B
+abbrev pub end_line_of : List ℕ → ℕ → End → List ℕ
+end_line_of output turns end = codes "== " ++ (end_text end ++ ((codes " turns " ++ decimal turns) ++ ((codes " bytes " ++ decimal (length output)) ++ 10 ∷ [])))
+
+abbrev pub section_of : List ℕ → List ℕ → ℕ → End → List ℕ
+section_of input output turns end = codes "== " ++ (input ++ (10 ∷ (output ++ 10 ∷ end_line_of output turns end)))
+
+-- the section of a run on an input of this name
+abbrev pub section_text : List ℕ → Outcome → List ℕ
+section_text input run = section_of input run.output run.turns run.end

@@ -1,0 +1,23 @@
+-- The stops of the program as ends of a call, and its commands as commands.
+use Rattle.std.specs.Prelude.{Result, Ok, Err}
+use Rattle.atac_top.specs.declared.stop.Stop.{Stop}
+use Rattle.atac_top.specs.declared.stop.Stop.TheVariants as stop
+use Rattle.atac_top.specs.declared.words.Asked.{Asked}
+use Rattle.atac_top.specs.Words.{Command, Cover}
+use Rattle.atac_top.specs.Ends.{End, IsDone, NotAccepted, NotHeld, TooLong, ReadFailed, WriteFailed, OutOfMemory}
+
+abbrev pub end_of : Stop → End
+end_of (stop.NotAccepted file) = NotAccepted file.now
+end_of (stop.NotHeld file) = NotHeld file.now
+end_of (stop.TooLong file) = TooLong file.now
+end_of (stop.ReadFailed file) = ReadFailed file.now
+end_of stop.WriteFailed = WriteFailed
+end_of stop.NoMemory = OutOfMemory
+
+-- How a command ends that answers this.
+abbrev pub ended : {T : Type 0} → Result T Stop → End
+ended (Ok x) = IsDone
+ended (Err stop) = end_of stop
+
+abbrev pub command_of : Asked → Command
+command_of asked = Cover asked.program.now asked.input.now

@@ -1,0 +1,23 @@
+-- What the code holds of a program that it understands.
+use Rattle.std.specs.Prelude.{◌≡◌, ℕ, List}
+use Rattle.c_tree.specs.declared.token.Token.{Token}
+use Rattle.c_tree.specs.Shape.{UnitShape}
+use Rattle.c_tree.specs.View.{program_shape}
+use Rattle.c_tree.specs.Blocks.{blocks}
+use Rattle.c_tree.specs.Instrumented.{instr}
+use Rattle.first_form.specs.Grammar.{IsProgram}
+use Rattle.atac_top.specs.Programs.{IsFirst}
+use Rattle.atac_top.specs.declared.program.Understood as code
+
+-- the instrumented program, and the places of its blocks
+pub record Holds (P : UnitShape) (understood : code.Understood) : Type 0 where
+  pub tokens : List Token
+  pub is : IsProgram tokens P
+  pub program : program_shape understood.program ≡ instr P
+  pub blocks_are : understood.items.blocks ≡ blocks P
+
+-- those of the program that the text is
+pub record Reads (source : List ℕ) (understood : code.Understood) : Type 0 where
+  pub program : UnitShape
+  pub first : IsFirst source program
+  pub holds : Holds program understood

@@ -1,0 +1,37 @@
+ghost use Rattle.std.specs.Prelude.{◌≡◌, Some};
+ghost use Rattle.atac_top.specs.Words.{Cover};
+ghost use Rattle.atac_top.specs.Stops.{ended};
+ghost use Rattle.atac_top.specs.Runs.{Goes};
+
+use crate::outside::{fetch, put};
+use crate::program::{run_on, understand};
+use crate::stop::Stop;
+use atac_base::outside::{Shelf, Sink};
+use std::alloc::Global;
+
+/// The most bytes of a program.
+const PROGRAM_MOST: u64 = 1_048_576;
+
+/// The most bytes of an input.
+const INPUT_MOST: u64 = 16_777_216;
+
+/// Runs the program on the input and puts the section and the report.
+pub fn cover<'a, S: Shelf, W: Sink>(
+    alloc: Global,
+    program: &'a str,
+    input: &'a str,
+    shelf: &mut S,
+    out: &mut W,
+) -> Result<(), Stop<'a>>
+    ensures { Goes (Some (Cover program.now input.now)) (S.state shelf.old) (S.state shelf.new)
+        (W.state out.old) (W.state out.new) (ended result) }
+{
+    let source = fetch(alloc, shelf, program, PROGRAM_MOST)?;
+    let Some(understood) = understand(alloc, source.as_slice())? else {
+        return Err(Stop::NotAccepted(program));
+    };
+    let bytes = fetch(alloc, shelf, input, INPUT_MOST)?;
+    let ran = run_on(alloc, &understood, input, bytes.as_slice())?;
+    put(out, ran.section.as_slice())?;
+    put(out, ran.report.as_slice())
+}

@@ -1,0 +1,11 @@
+//! The top call: reads the words, fetches the files, runs the program, and puts the texts.
+#![tactic(auto)]
+
+mod commands;
+mod outside;
+mod program;
+mod sections;
+pub mod status;
+mod stop;
+pub mod top;
+mod words;

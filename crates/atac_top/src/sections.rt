@@ -1,0 +1,89 @@
+ghost use Rattle.std.specs.Prelude.{◌≡◌, ◌++◌, ◌∷◌, [], length, string_bytes, OnOk, IfOk, codes};
+ghost use Rattle.std.specs.Fmt.{decimal};
+ghost use Rattle.atac_top.specs.Sections.{fault_text, end_text, end_line_of, section_of};
+
+use atac_base::place::NoMemory;
+use c_machine::end::{End, Fault, RunEnd};
+use std::alloc::{AllocError, Global};
+
+fn fault_name(fault: Fault) -> &'static str
+    ensures { result.now ≡ fault_text fault }
+{
+    match fault {
+        Fault::Overflow => "2 Overflow",
+        Fault::Uninitialised => "7 Uninitialised",
+        Fault::NoResult => "10 NoResult",
+    }
+}
+
+fn number(alloc: Global, n: u64) -> Result<String, AllocError>
+    ensures { IfOk result (λ s. string_bytes s ≡ decimal n) }
+{
+    n.to_string(alloc)
+}
+
+/// Appends how a run ended.
+fn put_end(text: &mut Vec<u8>, alloc: Global, end: &End) -> Result<(), AllocError>
+    ensures { OnOk result (text.new.items ≡ text.old.items ++ end_text end.now) }
+{
+    match end {
+        End::Returned(status) => {
+            text.extend_from_slice(b"returned ")?;
+            text.extend_from_slice(status.to_string(alloc)?.as_bytes())
+        }
+        End::Fault(fault, function) => {
+            text.extend_from_slice(b"fault ")?;
+            text.extend_from_slice(fault_name(*fault).as_bytes())?;
+            text.extend_from_slice(b" in ")?;
+            text.extend_from_slice(function.bytes())
+        }
+        End::Turns => text.extend_from_slice(b"turn limit"),
+    }
+}
+
+/// Appends a number between two words.
+fn put_number(text: &mut Vec<u8>, alloc: Global, before: &[u8], n: u64) -> Result<(), AllocError>
+    ensures { OnOk result (text.new.items ≡ text.old.items ++ (before.now ++ decimal n)) }
+{
+    text.extend_from_slice(before)?;
+    text.extend_from_slice(number(alloc, n)?.as_bytes())
+}
+
+/// Appends the line that says how the run ended, and what it took.
+fn put_end_line(text: &mut Vec<u8>, alloc: Global, run: &RunEnd) -> Result<(), AllocError>
+    ensures { OnOk result (text.new.items ≡ text.old.items ++ end_line_of run.now.output run.now.turns run.now.end) }
+{
+    text.extend_from_slice(b"== ")?;
+    put_end(text, alloc, &run.end)?;
+    put_number(text, alloc, b" turns ", run.turns)?;
+    put_number(text, alloc, b" bytes ", u64::from(run.output.len()))?;
+    text.extend_from_slice(b"\n")
+}
+
+/// Appends the section of a run: the input's name, the output, and the line of its end.
+fn put_section(
+    text: &mut Vec<u8>,
+    alloc: Global,
+    input: &str,
+    run: &RunEnd,
+) -> Result<(), AllocError>
+    ensures { OnOk result (text.new.items ≡ text.old.items ++ section_of input.now run.now.output run.now.turns run.now.end) }
+{
+    text.extend_from_slice(b"== ")?;
+    text.extend_from_slice(input.as_bytes())?;
+    text.extend_from_slice(b"\n")?;
+    text.extend_from_slice(run.output.bytes())?;
+    text.extend_from_slice(b"\n")?;
+    put_end_line(text, alloc, run)
+}
+
+/// The section of a run.
+pub fn section_of_run(alloc: Global, input: &str, run: &RunEnd) -> Result<Vec<u8>, NoMemory>
+    ensures { IfOk result (λ text. text.items ≡ section_of input.now run.now.output run.now.turns run.now.end) }
+{
+    let mut text = Vec::new(alloc);
+    match put_section(&mut text, alloc, input, run) {
+        Ok(()) => Ok(text),
+        Err(_) => Err(NoMemory),
+    }
+}

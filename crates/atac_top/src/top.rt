@@ -1,0 +1,125 @@
+ghost use Rattle.std.specs.Prelude.{◌≡◌, ◌⊎◌, ◌↔◌, ◌++◌, ℕ, List, IsTrue, map, string_bytes, Some, None, IfSome};
+ghost use Rattle.atac_base.specs.Outside.{Rose};
+ghost use Rattle.c_tree.specs.Shape.{UnitShape};
+ghost use Rattle.atac_top.specs.Programs.{IsFirst};
+ghost use Rattle.atac_top.specs.Words.{reads};
+ghost use Rattle.atac_top.specs.Ends.{line_of, file_of, said_of};
+ghost use Rattle.atac_top.specs.Stops.{end_of};
+ghost use Rattle.atac_top.specs.Runs.{Runs, Tells};
+ghost use Rattle.atac_top.specs.Claims.{Supposes, Shows, NoFault};
+ghost use Rattle.atac_base.specs.declared.probes.Event.{Event};
+ghost use Rattle.cover_core.specs.Covered.{covers, IsCovered};
+
+use crate::commands::cover;
+use crate::status::Status;
+use crate::stop::Stop;
+use crate::words::read_words;
+use atac_base::outside::{PutErr, Shelf, Sink};
+use std::alloc::Global;
+
+/// What a stop says, behind the name of its file.
+fn said_of_stop(stop: &Stop<'_>) -> &'static [u8]
+    ensures { result.now ≡ said_of (end_of stop.now) }
+{
+    match stop {
+        Stop::NotAccepted(_) => b":1:1: 29 NotYet",
+        Stop::NotHeld(_) => b": absent",
+        Stop::TooLong(_) => b": too long",
+        Stop::ReadFailed(_) => b": read fault",
+        Stop::WriteFailed => b"write fault",
+        Stop::NoMemory => b"no memory",
+    }
+}
+
+/// The file that a stop speaks of, or nothing.
+fn file_of_stop<'a>(stop: &Stop<'a>) -> &'a [u8]
+    ensures { result.now ≡ file_of (end_of stop.now) }
+{
+    match stop {
+        Stop::NotAccepted(file) => file.as_bytes(),
+        Stop::NotHeld(file) => file.as_bytes(),
+        Stop::TooLong(file) => file.as_bytes(),
+        Stop::ReadFailed(file) => file.as_bytes(),
+        Stop::WriteFailed => b"",
+        Stop::NoMemory => b"",
+    }
+}
+
+/// Puts the line of a stop. It takes no memory, so it puts the line piece by piece.
+fn tell<E: Sink>(err: &mut E, stop: &Stop<'_>)
+    ensures { Tells (E.state err.old) (E.state err.new) (line_of (end_of stop.now)) }
+{
+    let _ = put_four(
+        err,
+        b"atac: ",
+        file_of_stop(stop),
+        said_of_stop(stop),
+        b"\n",
+    );
+}
+
+/// Puts four pieces, and ends at the first that fails.
+fn put_four<E: Sink>(err: &mut E, a: &[u8], b: &[u8], c: &[u8], d: &[u8]) -> Result<(), PutErr>
+    ensures { Tells (E.state err.old) (E.state err.new) (a.now ++ (b.now ++ (c.now ++ d.now))) }
+{
+    err.put(a)?;
+    err.put(b)?;
+    err.put(c)?;
+    err.put(d)
+}
+
+/// Reads the words, does what they ask for, and puts the line of a status other than `Done` to `err`.
+///
+/// `cover P INPUT` fetches P, at most 1,048,576 bytes, and refuses it where it isn't understood; fetches INPUT,
+/// at most 16,777,216 bytes; runs P on it; and puts the section of this run and the report to `out`. All other
+/// words are no command. An operand doesn't begin with `-`; an empty one is a name like another.
+///
+/// `NoMemory` may come in place of each status but `Usage`. A put to `err` that fails leaves the status as it is.
+#[tactic(auto, using(cover_core::proofs::Laws::covered_law))]
+pub fn atac<S: Shelf, W: Sink, E: Sink>(
+    alloc: Global,
+    words: &Vec<String>,
+    shelf: &mut S,
+    out: &mut W,
+    err: &mut E,
+) -> Status
+    // The whole call: the answer to the words by what is found under their names, or a fault or want of memory
+    // in its place; what was put by then; what the shelf says now; and the line.
+    ensures runs { Runs (reads (map string_bytes words.now.items)) (S.state shelf.old) (S.state shelf.new)
+        (W.state out.old) (W.state out.new) (E.state err.old) (E.state err.new) result }
+
+    // Usage comes exactly where the words aren't read.
+    ensures usage { result ≡ Status.Usage ↔ reads (map string_bytes words.now.items) ≡ None }
+
+    // A fault is answered only where its count rose in this call.
+    ensures read_fault { result ≡ Status.ReadFault → Rose (S.state shelf.old).read_faults (S.state shelf.new).read_faults }
+    ensures write_fault { result ≡ Status.WriteFault → Rose (W.state out.old).faults (W.state out.new).faults }
+
+    // When the call is done, the sink gained the section of the program's own run and the report of its blocks.
+    ensures headline { result ≡ Status.Done → IfSome (reads (map string_bytes words.now.items)) (λ command.
+        Shows command (S.state shelf.old).says (W.state out.old) (W.state out.new)) }
+
+    // A text is one program at most.
+    ensures one_program { (source : List ℕ) (P Q : UnitShape) → IsFirst source P → IsFirst source Q → Q ≡ P }
+
+    // A block is covered exactly where some position of the run's events holds it.
+    ensures covered { (events : List Event) (k : ℕ) → IsTrue (covers events k) ↔ IsCovered events k }
+
+    // Where the files are held, the program is understood and no count of faults rose, the call is done, or memory was wanted.
+    ensures complete { IfSome (reads (map string_bytes words.now.items)) (λ command.
+        Supposes command (S.state shelf.old).says
+        → NoFault (S.state shelf.old) (S.state shelf.new) (W.state out.old) (W.state out.new)
+        → (result ≡ Status.Done) ⊎ (result ≡ Status.NoMemory)) }
+{
+    let Some(asked) = read_words(words) else {
+        let _ = put_four(err, b"atac: ", b"", b"bad usage", b"\n");
+        return Status::Usage;
+    };
+    match cover(alloc, asked.program, asked.input, shelf, out) {
+        Ok(()) => Status::Done,
+        Err(stop) => {
+            tell(err, &stop);
+            stop.status()
+        }
+    }
+}

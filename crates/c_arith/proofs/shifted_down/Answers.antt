@@ -1,0 +1,20 @@
+use Rattle.std.proofs.Common.{◌≡◌, ◌∙◌, ap, sym, Ok, Err, rules}
+use Rattle.std.specs.Int.{w128}
+use Rattle.std.proofs.lemmas.Int.{to_z-of_z}
+use Rattle.c_arith.specs.Arith.{shift_count}
+use Rattle.c_arith.proofs.Results.{shift-right, shift-fault, shr_is}
+use Rattle.c_arith.proofs.shifted_down.Goals as goal
+
+pub returns-in_err-count : goal.returns-in_err-count
+returns-in_err-count c =
+    let fault = c.in_err-count.field-0.0 in
+    let is : c.from_residual.result ≡ Err fault = search rules in
+    let count = sym (c.shift_count.ensures.value ∙ ap (shift_count c.args.kind) (to_z-of_z w128 c.args.b c.ranges.b)) ∙ c.in_err-count.was in
+    is ∙ sym (shift-fault c.args.kind c.args.a c.args.b fault count).1
+
+pub returns : goal.returns
+returns c =
+    let kind = c.args.kind in
+    let n = c.in_ok-count.count in
+    let count = sym (c.shift_count.ensures.value ∙ ap (shift_count kind) (to_z-of_z w128 c.args.b c.ranges.b)) ∙ c.in_ok-count.was in
+    ap Ok (shr_is c.args.a n c.ranges.a) ∙ sym (shift-right kind c.args.a c.args.b n count)

@@ -1,0 +1,15 @@
+pub mod Looking
+pub mod Numbers
+pub mod Steps
+pub mod Expressions
+pub mod ExprSound
+pub mod StmtSteps
+pub mod Statements
+pub mod StmtSound
+pub mod Declarations
+pub mod Whole
+pub mod Keys
+pub mod Rows
+pub mod MadeSteps
+pub mod DeclSteps
+pub mod UnitSteps
