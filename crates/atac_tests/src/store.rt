@@ -56,7 +56,11 @@ fn two_cells(rt: HostRuntime) -> Result<(), Fail> {
     assert_eq!(rt; store.read(second), Ok(Value::Null));
     assert_eq!(rt;
         store.select(Pointer { size: 2, ..first }, 1, 1, 1),
-        Ok(Pointer { base: 1, ..first })
+        Ok(Pointer {
+            base: 1,
+            length: 1,
+            ..first
+        })
     );
     assert_eq!(rt;
         store.compare(Order::Lt, Value::At(first), Value::At(second)),
