@@ -2,9 +2,9 @@ use atac_base::place::{IntKind, Pos};
 use atac_base::probes::{Event, EventList};
 use c_machine::end::End;
 use c_machine::run::run;
-use c_tree::program::Program;
 use c_tree::text::Text;
-use c_tree::tree::{
+use first_tree::program::Program;
+use first_tree::tree::{
     BinaryOp, CType, Compound, Decl, Declarator, Expr, ExprProbe, External, Init, Item, Named,
     Node, Note, ProbeMark, Stmt, StmtForm, Unit,
 };

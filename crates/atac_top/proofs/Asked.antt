@@ -1,6 +1,6 @@
 -- The answer of `cover`, as far as its steps have come.
 use Rattle.std.proofs.Common.{◌≡◌, ap, ◌∙◌, append-nil, List, [], ◌∷◌, ◌++◌, ℕ, Option, None, Some}
-use Rattle.c_tree.specs.Shape.{UnitShape}
+use Rattle.first_tree.specs.Shape.{UnitShape}
 use Rattle.atac_top.specs.Words.{Cover}
 use Rattle.atac_top.specs.Ends.{End, IsDone, NotAccepted}
 use Rattle.atac_top.specs.Programs.{IsUnderstood, section, report}

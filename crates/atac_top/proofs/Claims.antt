@@ -4,7 +4,7 @@ use Rattle.std.specs.Io.KnownBytes.{append_known}
 use Rattle.atac_base.specs.Outside.{ShelfState, SinkState, Said, Agrees}
 use Rattle.atac_top.specs.Words.{Command, Cover}
 use Rattle.atac_top.specs.Ends.{End, IsDone, BadWords, NotAccepted, NotHeld, TooLong, ReadFailed, WriteFailed, OutOfMemory, status_of}
-use Rattle.c_tree.specs.Shape.{UnitShape}
+use Rattle.first_tree.specs.Shape.{UnitShape}
 use Rattle.atac_top.specs.Programs.{IsFirst, IsUnderstood, section, report}
 use Rattle.atac_top.specs.Answers.{Answer, asked, names, text, gets, Gets, program_most, input_most}
 use Rattle.atac_top.specs.Runs.{AllAgree, IsOfGot, Understands, Breaks, Answers, Goes, Runs}

@@ -7,7 +7,7 @@ use Rattle.atac_top.specs.Words.{Command}
 use Rattle.atac_top.specs.Ends.{End, IsDone, BadWords, NotAccepted, NotHeld, TooLong, ReadFailed, WriteFailed, OutOfMemory}
 use Rattle.atac_top.specs.Answers.{Answer, asked, names, joined, text, refused, gets, Stops}
 use Rattle.atac_top.specs.Grows.{ShelfGrows, SinkGrows}
-use Rattle.c_tree.specs.Shape.{UnitShape}
+use Rattle.first_tree.specs.Shape.{UnitShape}
 use Rattle.atac_top.specs.Runs.{AllAgree, StaysBut, Comes, Keeps, Understands, Breaks, Goes}
 use Rattle.atac_top.specs.Steps.{FetchStops, PutStops, Puts}
 use Rattle.atac_top.specs.Stops.{end_of, ended}

@@ -1,7 +1,7 @@
 -- A program of the first form has no probes.
 use Rattle.std.proofs.Common.{List, [], ◌∷◌, Option, Some, None, subst, sym}
-use Rattle.c_tree.specs.declared.token.Token.{Token}
-use Rattle.c_tree.specs.Shape.{NodeShape, node, ExprShape, number, name, paren, call, binary, assign, probe, NodeShapes, no_nodes, more_nodes, DeclaratorShape, DeclShape, StmtShape, stmt, FormShape, compound, plain, when, while, return, CompoundShape, braces, StmtShapes, no_stmts, more_stmts, ExternalShape, function, UnitShape}
+use Rattle.first_tree.specs.declared.token.Token.{Token}
+use Rattle.first_tree.specs.Shape.{NodeShape, node, ExprShape, number, name, paren, call, binary, assign, probe, NodeShapes, no_nodes, more_nodes, DeclaratorShape, DeclShape, StmtShape, stmt, FormShape, compound, plain, when, while, return, CompoundShape, braces, StmtShapes, no_stmts, more_stmts, ExternalShape, function, UnitShape}
 use Rattle.c_machine.specs.Simulates.{IsPlain, IsPlainForm, ArePlain, MaybePlain, DeclaratorsPlain, DeclsPlain, StmtPlain, FormPlain, BracesPlain, StmtsPlain, ExternalsPlain, UnitPlain}
 use Rattle.first_form.specs.Grammar.{Written, WrittenAs, WrittenArgs, WrittenInit, WrittenNames, WrittenDecls, WrittenStmt, WrittenForm, WrittenBraces, WrittenStmts, WrittenBody, WrittenExternals, IsProgram}
 

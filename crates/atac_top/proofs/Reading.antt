@@ -2,8 +2,8 @@
 use Rattle.std.proofs.Common.{◌≡◌, sym, ◌∙◌, subst, List, [], ℕ, Option, None, Some}
 use Rattle.std.specs.Prelude.{MatchOption}
 use Rattle.atac_top.specs.declared.program.Understood as code
-use Rattle.c_tree.specs.declared.token.Token.{Token}
-use Rattle.c_tree.specs.Shape.{UnitShape}
+use Rattle.first_tree.specs.declared.token.Token.{Token}
+use Rattle.first_tree.specs.Shape.{UnitShape}
 use Rattle.first_tokens.specs.Tokens.{tokens_of}
 use Rattle.first_form.specs.Grammar.{IsProgram}
 use Rattle.first_form.proofs.Whole.{program_found, found_only}

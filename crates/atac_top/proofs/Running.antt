@@ -1,7 +1,7 @@
 -- The instrumented program's run, as the program's own.
 use Rattle.std.proofs.Common.{◌≡◌, sym, ap, ◌∙◌, List, [], ℕ, Bool, None}
 use Rattle.atac_base.specs.declared.probes.Event.{Event}
-use Rattle.c_tree.specs.Shape.{UnitShape}
+use Rattle.first_tree.specs.Shape.{UnitShape}
 use Rattle.c_machine.specs.declared.end.End.{End}
 use Rattle.c_machine.specs.Run.{Outcome, run_of}
 use Rattle.c_machine.specs.Simulates.{logged_outcome}
@@ -13,7 +13,7 @@ use Rattle.atac_top.specs.Programs.{run_on, section, report, turn_limit}
 use Rattle.atac_top.specs.Sections.{section_of}
 use Rattle.atac_top.specs.Understanding.{Holds}
 use Rattle.atac_top.specs.declared.program.Understood as code
-use Rattle.c_tree.specs.View.{program_shape}
+use Rattle.first_tree.specs.View.{program_shape}
 use Rattle.atac_top.proofs.Plain.{plain_program}
 
 -- what a run with probes gives

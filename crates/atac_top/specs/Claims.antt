@@ -3,7 +3,7 @@ use Rattle.std.specs.Prelude.{◌≡◌, ℕ, ◌≤◌, List, ◌++◌, length,
 use Rattle.std.specs.Io.KnownBytes.{append_known}
 use Rattle.atac_base.specs.Outside.{ShelfState, SinkState, Said, Rose}
 use Rattle.atac_top.specs.Words.{Command, Cover}
-use Rattle.c_tree.specs.Shape.{UnitShape}
+use Rattle.first_tree.specs.Shape.{UnitShape}
 use Rattle.atac_top.specs.Programs.{IsFirst, section, report}
 use Rattle.atac_top.specs.Answers.{program_most, input_most}
 

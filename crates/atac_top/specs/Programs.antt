@@ -1,8 +1,8 @@
 -- What is understood of a program's text, and the texts of its run on an input.
 use Rattle.std.specs.Prelude.{◌≡◌, ℕ, List, Option, Some, None}
-use Rattle.c_tree.specs.declared.token.Token.{Token}
-use Rattle.c_tree.specs.Shape.{UnitShape}
-use Rattle.c_tree.specs.Blocks.{blocks}
+use Rattle.first_tree.specs.declared.token.Token.{Token}
+use Rattle.first_tree.specs.Shape.{UnitShape}
+use Rattle.first_tree.specs.Blocks.{blocks}
 use Rattle.first_tokens.specs.Tokens.{tokens_of}
 use Rattle.first_form.specs.Grammar.{IsProgram}
 use Rattle.c_machine.specs.Run.{Outcome, run_of}

@@ -4,7 +4,7 @@ use Rattle.std.specs.Io.KnownBytes.{append_known}
 use Rattle.atac_base.specs.Outside.{ShelfState, SinkState, Said, Agrees, Rose, IsFront}
 use Rattle.atac_top.specs.Words.{Command}
 use Rattle.atac_top.specs.Ends.{End, IsDone, ReadFailed, WriteFailed, OutOfMemory, status_of, line_of}
-use Rattle.c_tree.specs.Shape.{UnitShape}
+use Rattle.first_tree.specs.Shape.{UnitShape}
 use Rattle.atac_top.specs.Programs.{IsUnderstood}
 use Rattle.atac_top.specs.Answers.{Answer, asked, names, joined, text, Got, Gets, Stops, gets, program_most}
 use Rattle.atac_top.specs.Grows.{ShelfGrows, SinkGrows}

@@ -1,10 +1,10 @@
 -- What the code holds of a program that it understands.
 use Rattle.std.specs.Prelude.{◌≡◌, ℕ, List}
-use Rattle.c_tree.specs.declared.token.Token.{Token}
-use Rattle.c_tree.specs.Shape.{UnitShape}
-use Rattle.c_tree.specs.View.{program_shape}
-use Rattle.c_tree.specs.Blocks.{blocks}
-use Rattle.c_tree.specs.Instrumented.{instr}
+use Rattle.first_tree.specs.declared.token.Token.{Token}
+use Rattle.first_tree.specs.Shape.{UnitShape}
+use Rattle.first_tree.specs.View.{program_shape}
+use Rattle.first_tree.specs.Blocks.{blocks}
+use Rattle.first_tree.specs.Instrumented.{instr}
 use Rattle.first_form.specs.Grammar.{IsProgram}
 use Rattle.atac_top.specs.Programs.{IsFirst}
 use Rattle.atac_top.specs.declared.program.Understood as code

@@ -1,5 +1,5 @@
 ghost use Rattle.std.specs.Prelude.{◌≡◌, ◌≤◌, length, IfOk, MatchOption, None};
-ghost use Rattle.c_tree.specs.Shape.{UnitShape};
+ghost use Rattle.first_tree.specs.Shape.{UnitShape};
 ghost use Rattle.atac_top.specs.Programs.{IsUnderstood, section, report};
 ghost use Rattle.atac_top.specs.Understanding.{Holds, Reads};
 
@@ -7,11 +7,11 @@ use crate::sections::section_of_run;
 use atac_base::items::Items;
 use atac_base::place::NoMemory;
 use c_machine::run::run;
-use c_tree::program::Program;
 use cover_core::collector::Collector;
 use cover_report::report::report;
 use first_form::program::read;
 use first_tokens::tokens::tokens;
+use first_tree::program::Program;
 use std::alloc::Global;
 
 /// The most turns of a run.

@@ -1,6 +1,6 @@
 ghost use Rattle.std.specs.Prelude.{◌≡◌, ◌⊎◌, ◌↔◌, ◌++◌, ℕ, List, IsTrue, map, string_bytes, Some, None, IfSome};
 ghost use Rattle.atac_base.specs.Outside.{Rose};
-ghost use Rattle.c_tree.specs.Shape.{UnitShape};
+ghost use Rattle.first_tree.specs.Shape.{UnitShape};
 ghost use Rattle.atac_top.specs.Programs.{IsFirst};
 ghost use Rattle.atac_top.specs.Words.{reads};
 ghost use Rattle.atac_top.specs.Ends.{line_of, file_of, said_of};

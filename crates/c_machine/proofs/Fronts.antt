@@ -2,10 +2,10 @@
 use Rattle.std.proofs.Common.{◌≡◌, ℕ, zero, suc, ℤ, List, [], ◌∷◌, ◌++◌, length, map, Option, Some, None, Bool, true, false, refl, sym, ap, ◌∙◌, subst, append-nil, append_assoc}
 use Rattle.std.specs.Prelude.{slice_get, nat_lt, bytes_eq, codes, if◌then◌else◌}
 use Rattle.atac_base.specs.declared.probes.Event.{Event}
-use Rattle.c_tree.specs.declared.tree.ProbeMark.{ProbeMark}
-use Rattle.c_tree.specs.Shape.{NoteShape, bare, typed, known, block, NodeShape, node, ExprShape, number, name, paren, call, binary, assign, probe, no_nodes, more_nodes, DeclaratorShape, StmtShape, stmt, FormShape, compound, plain, when, while, return, CompoundShape, braces, StmtShapes, no_stmts, more_stmts}
-use Rattle.c_tree.specs.Blocks.{parts, blocks_of}
-use Rattle.c_tree.specs.View.{node_shape, declarator_shape, decl_shape, stmt_shape, stmt_list}
+use Rattle.first_tree.specs.declared.tree.ProbeMark.{ProbeMark}
+use Rattle.first_tree.specs.Shape.{NoteShape, bare, typed, known, block, NodeShape, node, ExprShape, number, name, paren, call, binary, assign, probe, no_nodes, more_nodes, DeclaratorShape, StmtShape, stmt, FormShape, compound, plain, when, while, return, CompoundShape, braces, StmtShapes, no_stmts, more_stmts}
+use Rattle.first_tree.specs.Blocks.{parts, blocks_of}
+use Rattle.first_tree.specs.View.{node_shape, declarator_shape, decl_shape, stmt_shape, stmt_list}
 use Rattle.c_machine.specs.declared.end.Flow.{Flow}
 use Rattle.c_machine.specs.declared.end.Flow.TheVariants.{Next, Back}
 use Rattle.c_machine.specs.declared.work.Frame.{Frame}

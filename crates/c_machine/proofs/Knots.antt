@@ -1,9 +1,9 @@
 -- The knot is tied: what a loop's further turns do doesn't depend on the bound, once it passes the turns that are left.
 use Rattle.std.proofs.Common.{◌≡◌, ℕ, zero, suc, ◌<◌, ◌≤◌, ℤ, List, [], ◌∷◌, length, Option, Some, None, refl, sym, subst, arith}
 use Rattle.std.specs.Prelude.{slice_get, nat_lt, bytes_eq, codes, if◌then◌else◌, Bool, true, false}
-use Rattle.c_tree.specs.declared.tree.ProbeMark.{ProbeMark}
-use Rattle.c_tree.specs.Shape.{NoteShape, bare, typed, known, block, NodeShape, node, ExprShape, number, name, paren, call, binary, assign, probe, no_nodes, more_nodes, DeclaratorShape, StmtShape, stmt, FormShape, compound, plain, when, while, return, CompoundShape, braces, StmtShapes, no_stmts, more_stmts}
-use Rattle.c_tree.specs.Blocks.{parts, blocks_of}
+use Rattle.first_tree.specs.declared.tree.ProbeMark.{ProbeMark}
+use Rattle.first_tree.specs.Shape.{NoteShape, bare, typed, known, block, NodeShape, node, ExprShape, number, name, paren, call, binary, assign, probe, no_nodes, more_nodes, DeclaratorShape, StmtShape, stmt, FormShape, compound, plain, when, while, return, CompoundShape, braces, StmtShapes, no_stmts, more_stmts}
+use Rattle.first_tree.specs.Blocks.{parts, blocks_of}
 use Rattle.c_machine.specs.declared.end.Flow.{Flow}
 use Rattle.c_machine.specs.declared.end.Flow.TheVariants.{Next, Back}
 use Rattle.c_machine.specs.Results.{State, Got, Gives, Stops, then_do, turn_of, turn}

@@ -9,14 +9,14 @@ use Rattle.c_machine.specs.declared.machine.Step.{Step}
 use Rattle.c_machine.specs.declared.machine.Step.TheVariants as step
 use Rattle.std.proofs.Common.{map}
 use Rattle.atac_base.specs.declared.probes.Event.TheVariants.{Block}
-use Rattle.c_tree.specs.declared.tree.ProbeMark.{ProbeMark}
-use Rattle.c_tree.specs.declared.tree.Item.{Item}
-use Rattle.c_tree.specs.Shape.{NodeShape, StmtShape, stmt, StmtShapes, no_stmts, more_stmts, braces, DeclaratorShape}
+use Rattle.first_tree.specs.declared.tree.ProbeMark.{ProbeMark}
+use Rattle.first_tree.specs.declared.tree.Item.{Item}
+use Rattle.first_tree.specs.Shape.{NodeShape, StmtShape, stmt, StmtShapes, no_stmts, more_stmts, braces, DeclaratorShape}
 use Rattle.atac_base.specs.declared.place.Pos.{Pos}
-use Rattle.c_tree.specs.declared.tree.Decl.{Decl}
-use Rattle.c_tree.specs.declared.tree.Compound.{Compound, Compound', out-Compound, items-the_row-Item, the_lemmas, Row_of-Item, end_of-Item, more_of-Item}
-use Rattle.c_tree.specs.Blocks.{parts}
-use Rattle.c_tree.specs.View.{stmt_shape, stmt_list, items_shape, form_shape, decl_shape, compound_shape}
+use Rattle.first_tree.specs.declared.tree.Decl.{Decl}
+use Rattle.first_tree.specs.declared.tree.Compound.{Compound, Compound', out-Compound, items-the_row-Item, the_lemmas, Row_of-Item, end_of-Item, more_of-Item}
+use Rattle.first_tree.specs.Blocks.{parts}
+use Rattle.first_tree.specs.View.{stmt_shape, stmt_list, items_shape, form_shape, decl_shape, compound_shape}
 use Rattle.c_machine.specs.declared.end.Stop.{Stop}
 use Rattle.c_machine.specs.declared.machine.Use.{Use}
 use Rattle.c_machine.specs.declared.machine.Use.TheVariants.{SetUp}

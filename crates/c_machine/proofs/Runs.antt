@@ -1,7 +1,7 @@
 -- A run from its start to its end.
 use Rattle.std.proofs.Common.{◌≡◌, ℕ, ◌-◌, ℤ, List, [], Option, None, sym, ap, ◌∙◌}
 use Rattle.atac_base.specs.declared.probes.Event.{Event}
-use Rattle.c_tree.specs.Shape.{ExternalShape, UnitShape}
+use Rattle.first_tree.specs.Shape.{ExternalShape, UnitShape}
 use Rattle.c_machine.specs.declared.end.End.{End}
 use Rattle.c_machine.specs.declared.world.World.{World}
 use Rattle.c_machine.specs.Meaning.{loops}

@@ -3,10 +3,10 @@ use Rattle.std.proofs.Common.{◌≡◌, ℕ, zero, suc, ◌+◌, ◌≤◌, ℤ
 use Rattle.std.specs.Prelude.{if◌then◌else◌, nat_lt, slice_set}
 use Rattle.std.specs.Fmt.{decimal}
 use Rattle.atac_base.specs.declared.place.Pos.{Pos}
-use Rattle.c_tree.specs.declared.tree.ProbeMark.{ProbeMark}
-use Rattle.c_tree.specs.Shape.{NoteShape, bare, typed, known, block, NodeShape, node, ExprShape, number, name, paren, call, binary, assign, probe, no_nodes, more_nodes, DeclaratorShape, DeclShape, StmtShape, stmt, FormShape, compound, plain, when, while, return, CompoundShape, braces, StmtShapes, no_stmts, more_stmts, ExternalShape, function, UnitShape}
-use Rattle.c_tree.specs.Blocks.{parts, counted, blocks_of, blocks_in, blocks_between, blocks_along, place_of_braces, blocks_of_all, blocks}
-use Rattle.c_tree.specs.Instrumented.{mark_at, marks_at, past, probed_test, instr_stmt, instr_form, instr_braces, instr_list, instr_all, instr}
+use Rattle.first_tree.specs.declared.tree.ProbeMark.{ProbeMark}
+use Rattle.first_tree.specs.Shape.{NoteShape, bare, typed, known, block, NodeShape, node, ExprShape, number, name, paren, call, binary, assign, probe, no_nodes, more_nodes, DeclaratorShape, DeclShape, StmtShape, stmt, FormShape, compound, plain, when, while, return, CompoundShape, braces, StmtShapes, no_stmts, more_stmts, ExternalShape, function, UnitShape}
+use Rattle.first_tree.specs.Blocks.{parts, counted, blocks_of, blocks_in, blocks_between, blocks_along, place_of_braces, blocks_of_all, blocks}
+use Rattle.first_tree.specs.Instrumented.{mark_at, marks_at, past, probed_test, instr_stmt, instr_form, instr_braces, instr_list, instr_all, instr}
 use Rattle.c_machine.specs.declared.end.Flow.{Flow}
 use Rattle.c_machine.specs.declared.end.Flow.TheVariants.{Next, Back}
 use Rattle.c_machine.specs.Results.{State, Got, Gives, Stops, then_do, turn_of, turn, untyped}

@@ -3,20 +3,20 @@ use Rattle.std.proofs.Common.{◌≡◌, ℕ, ◌+◌, ℤ, length, List, [], �
 use Rattle.std.proofs.lemmas.Int.{to_z-of_z}
 use Rattle.atac_base.specs.declared.probes.Event.{Event}
 use Rattle.atac_base.specs.declared.probes.Event.TheVariants.{Block}
-use Rattle.c_tree.specs.declared.tree.ExprProbe.{ExprProbe}
-use Rattle.c_tree.specs.declared.tree.ExprProbe.TheVariants as probes
+use Rattle.first_tree.specs.declared.tree.ExprProbe.{ExprProbe}
+use Rattle.first_tree.specs.declared.tree.ExprProbe.TheVariants as probes
 use Rattle.std.proofs.Common.{Vec, Box, Global, rules}
 use Rattle.c_machine.specs.Results.{State, Got, Gives, Stops, then_do, turn, untyped}
 use Rattle.c_machine.specs.declared.work.Frame.{Frame}
 use Rattle.c_machine.specs.declared.end.Stop.{Stop}
 use Rattle.c_machine.specs.declared.end.Stop.TheVariants as stop
-use Rattle.c_tree.specs.declared.tree.BinaryOp.{BinaryOp}
-use Rattle.c_tree.specs.declared.tree.Expr.{Expr, Call, Paren, Probe, Assign, items-the_row-Node, the_lemmas, Row_of-Node, end_of-Node, more_of-Node}
-use Rattle.c_tree.specs.declared.tree.Expr.TheVariants as expr
-use Rattle.c_tree.specs.declared.tree.Node.{Node}
+use Rattle.first_tree.specs.declared.tree.BinaryOp.{BinaryOp}
+use Rattle.first_tree.specs.declared.tree.Expr.{Expr, Call, Paren, Probe, Assign, items-the_row-Node, the_lemmas, Row_of-Node, end_of-Node, more_of-Node}
+use Rattle.first_tree.specs.declared.tree.Expr.TheVariants as expr
+use Rattle.first_tree.specs.declared.tree.Node.{Node}
 use Rattle.c_tree.specs.declared.text.Text.{Text}
-use Rattle.c_tree.specs.Shape.{NoteShape, NodeShape, node, call, assign, paren, probe, NodeShapes, no_nodes, more_nodes}
-use Rattle.c_tree.specs.View.{note_shape, probe_shape, expr_shape, node_shape, nodes_shape, node_list}
+use Rattle.first_tree.specs.Shape.{NoteShape, NodeShape, node, call, assign, paren, probe, NodeShapes, no_nodes, more_nodes}
+use Rattle.first_tree.specs.View.{note_shape, probe_shape, expr_shape, node_shape, nodes_shape, node_list}
 use Rattle.c_machine.specs.Meaning.{value, form_value, place, logged}
 use Rattle.c_machine.specs.Rest.{Taker, frame, frames, one_more, IsPlain, block_of}
 

@@ -2,9 +2,9 @@
 -- An expression takes a turn as it begins, but parentheses and probes; so does a statement, a function's body, and a declarator.
 use Rattle.std.specs.Prelude.{ℕ, zero, suc, ◌+◌, ℤ, pos, negsuc, Bool, true, false, List, [], ◌∷◌, ◌++◌, length, Option, Some, None, if◌then◌else◌, nat_lt, slice_get, slice_set, bytes_eq, codes}
 use Rattle.atac_base.specs.declared.probes.Event.TheVariants.{Block}
-use Rattle.c_tree.specs.declared.tree.ProbeMark.{ProbeMark}
-use Rattle.c_tree.specs.Shape.{NoteShape, typed, known, block, NodeShape, node, ExprShape, number, name, paren, call, binary, assign, probe, no_nodes, more_nodes, DeclaratorShape, DeclShape, StmtShape, stmt, FormShape, compound, plain, when, while, return, CompoundShape, braces, StmtShapes, no_stmts, more_stmts}
-use Rattle.c_tree.specs.Blocks.{parts, blocks_of}
+use Rattle.first_tree.specs.declared.tree.ProbeMark.{ProbeMark}
+use Rattle.first_tree.specs.Shape.{NoteShape, typed, known, block, NodeShape, node, ExprShape, number, name, paren, call, binary, assign, probe, no_nodes, more_nodes, DeclaratorShape, DeclShape, StmtShape, stmt, FormShape, compound, plain, when, while, return, CompoundShape, braces, StmtShapes, no_stmts, more_stmts}
+use Rattle.first_tree.specs.Blocks.{parts, blocks_of}
 use Rattle.c_machine.specs.declared.end.Stop.TheVariants as stop
 use Rattle.c_machine.specs.declared.end.Fault.TheVariants.{Overflow, Uninitialised}
 use Rattle.c_machine.specs.declared.end.Flow.{Flow}

@@ -1,10 +1,10 @@
 -- What an expression has still to do.
 use Rattle.std.specs.Prelude.{◌≡◌, ℕ, suc, ◌+◌, ◌<◌, ℤ, List, [], ◌∷◌, length, Option, Some, None}
 use Rattle.atac_base.specs.declared.probes.Event.{Event}
-use Rattle.c_tree.specs.declared.tree.Expr.{Expr}
-use Rattle.c_tree.specs.declared.tree.Expr.TheVariants.{Number, Name, Paren', Call', Binary', Assign', Probe'}
-use Rattle.c_tree.specs.Shape.{ProbeShape, block, NodeShape}
-use Rattle.c_tree.specs.View.{node_shape}
+use Rattle.first_tree.specs.declared.tree.Expr.{Expr}
+use Rattle.first_tree.specs.declared.tree.Expr.TheVariants.{Number, Name, Paren', Call', Binary', Assign', Probe'}
+use Rattle.first_tree.specs.Shape.{ProbeShape, block, NodeShape}
+use Rattle.first_tree.specs.View.{node_shape}
 use Rattle.c_machine.specs.declared.world.World.{World}
 use Rattle.c_machine.specs.declared.world.Reply.{Reply}
 use Rattle.c_machine.specs.declared.world.Reply.TheVariants as reply

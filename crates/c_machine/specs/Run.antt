@@ -1,9 +1,9 @@
 -- A whole run: `main` is called with no variable made, nothing written and the limit's turns left.
 use Rattle.std.specs.Prelude.{ℕ, ◌-◌, pos, List, [], ◌∷◌, Option, Some, None, true}
 use Rattle.atac_base.specs.declared.probes.Event.{Event}
-use Rattle.c_tree.specs.declared.tree.Named.{Named}
-use Rattle.c_tree.specs.declared.tree.ProbeMark.{ProbeMark}
-use Rattle.c_tree.specs.Shape.{CompoundShape, ExternalShape, function, UnitShape}
+use Rattle.first_tree.specs.declared.tree.Named.{Named}
+use Rattle.first_tree.specs.declared.tree.ProbeMark.{ProbeMark}
+use Rattle.first_tree.specs.Shape.{CompoundShape, ExternalShape, function, UnitShape}
 use Rattle.c_machine.specs.declared.end.End.{End}
 use Rattle.c_machine.specs.declared.end.End.TheVariants as end
 use Rattle.c_machine.specs.declared.end.Stop.{Stop}

@@ -1,6 +1,6 @@
 -- The instrumented program does what the program does, and its log is the program's events.
 use Rattle.std.specs.Prelude.{◌≡◌, List, [], ◌∷◌, Option, Some, None}
-use Rattle.c_tree.specs.Shape.{NodeShape, node, ExprShape, number, name, paren, call, binary, assign, probe, NodeShapes, no_nodes, more_nodes, DeclaratorShape, DeclShape, StmtShape, stmt, FormShape, compound, plain, when, while, return, CompoundShape, braces, StmtShapes, no_stmts, more_stmts, ExternalShape, function, UnitShape}
+use Rattle.first_tree.specs.Shape.{NodeShape, node, ExprShape, number, name, paren, call, binary, assign, probe, NodeShapes, no_nodes, more_nodes, DeclaratorShape, DeclShape, StmtShape, stmt, FormShape, compound, plain, when, while, return, CompoundShape, braces, StmtShapes, no_stmts, more_stmts, ExternalShape, function, UnitShape}
 use Rattle.c_machine.specs.Run.{Outcome}
 
 -- NO PROBES: in an expression, in a statement, in a program

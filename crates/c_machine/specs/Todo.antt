@@ -1,7 +1,7 @@
 -- What a run has still to do.
 use Rattle.std.specs.Prelude.{ℕ, ◌+◌, ◌<◌, ℤ, Bool, true, false, List, [], ◌∷◌, ◌++◌, length, map, Some, None}
-use Rattle.c_tree.specs.Shape.{DeclaratorShape, DeclShape, StmtShapes}
-use Rattle.c_tree.specs.View.{node_shape, declarator_shape, decl_shape, stmt_shape, stmt_list}
+use Rattle.first_tree.specs.Shape.{DeclaratorShape, DeclShape, StmtShapes}
+use Rattle.first_tree.specs.View.{node_shape, declarator_shape, decl_shape, stmt_shape, stmt_list}
 use Rattle.c_machine.specs.declared.end.Flow.{Flow}
 use Rattle.c_machine.specs.declared.end.Flow.TheVariants.{Next, Back}
 use Rattle.c_machine.specs.declared.work.Work.{Work}

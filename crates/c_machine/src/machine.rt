@@ -1,7 +1,7 @@
 ghost use Rattle.std.specs.Prelude.{◌≡◌, ◌<◌, ◌+◌, ◌*◌, List, ◌++◌, ◌∷◌, length, map, IfOk, OnOk, OnErr, false, None, ℕ, option_map};
 ghost use Rattle.atac_base.specs.declared.probes.Event.{Event};
-ghost use Rattle.c_tree.specs.Shape.{plain as plain_shape, return as return_shape};
-ghost use Rattle.c_tree.specs.View.{node_shape, init_shape, declarator_shape, decl_shape, stmt_shape, stmt_list, form_shape, compound_shape};
+ghost use Rattle.first_tree.specs.Shape.{plain as plain_shape, return as return_shape};
+ghost use Rattle.first_tree.specs.View.{node_shape, init_shape, declarator_shape, decl_shape, stmt_shape, stmt_list, form_shape, compound_shape};
 ghost use Rattle.c_machine.specs.Results.{State, Got, Gives, then_do, turn};
 ghost use Rattle.c_machine.specs.Meaning.{value as value_of, logged_all, declared, set_up as set_up_of, loops, flow as flow_of, form_flow, braces_flow, flows};
 ghost use Rattle.c_machine.specs.Front.{Grown};
@@ -14,7 +14,7 @@ use crate::work::{Advance, Work};
 use crate::world::{Reply, World};
 use atac_base::place::NoMemory;
 use atac_base::probes::{Event, Probes};
-use c_tree::tree::{Compound, Decl, Declarator, Init, Item, Node, ProbeMark, Stmt, StmtForm};
+use first_tree::tree::{Compound, Decl, Declarator, Init, Item, Node, ProbeMark, Stmt, StmtForm};
 
 /// What takes an expression's value.
 #[derive(Clone, Copy)]

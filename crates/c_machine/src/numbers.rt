@@ -5,7 +5,7 @@ ghost use Rattle.c_machine.specs.Numbers.{in_int, truth, operated, byte_of as lo
 ghost use Rattle.c_machine.specs.Rest.{number_on};
 
 use c_tree::text::Text;
-use c_tree::tree::BinaryOp;
+use first_tree::tree::BinaryOp;
 
 /// The value, where int has it.
 pub fn int_value(value: i128) -> Option<i32>

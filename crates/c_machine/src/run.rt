@@ -1,6 +1,6 @@
 ghost use Rattle.std.specs.Prelude.{◌≡◌, ◌≤◌, ◌++◌, ◌-◌, List, [], map, IfOk, OnErr, None, ℕ};
 ghost use Rattle.atac_base.specs.declared.probes.Event.{Event};
-ghost use Rattle.c_tree.specs.View.{declarator_shape, compound_shape, external_shape, program_shape};
+ghost use Rattle.first_tree.specs.View.{declarator_shape, compound_shape, external_shape, program_shape};
 ghost use Rattle.c_machine.specs.Results.{Gives, turn};
 ghost use Rattle.c_machine.specs.Meaning.{loops, braces_flow};
 ghost use Rattle.c_machine.specs.Front.{Grown, IsFront};
@@ -14,9 +14,9 @@ use crate::work::Work;
 use crate::world::World;
 use atac_base::place::NoMemory;
 use atac_base::probes::Probes;
-use c_tree::program::Program;
 use c_tree::text::Text;
-use c_tree::tree::{Compound, Declarator, External, ProbeMark};
+use first_tree::program::Program;
+use first_tree::tree::{Compound, Declarator, External, ProbeMark};
 use std::alloc::Global;
 
 /// How a function's body ends.

@@ -1,7 +1,7 @@
 ghost use Rattle.std.specs.Prelude.{◌≡◌, ◌<◌, ◌≤◌, ◌+◌, ◌*◌, List, [], ◌++◌, length, IfOk, OnErr, None};
 ghost use Rattle.atac_base.specs.declared.probes.Event.{Event};
-ghost use Rattle.c_tree.specs.Shape.{NoteShape, call as call_shape, assign as assign_shape};
-ghost use Rattle.c_tree.specs.View.{node_shape, node_list, probe_shape};
+ghost use Rattle.first_tree.specs.Shape.{NoteShape, call as call_shape, assign as assign_shape};
+ghost use Rattle.first_tree.specs.View.{node_shape, node_list, probe_shape};
 ghost use Rattle.c_machine.specs.Results.{State, Gives, then_do};
 ghost use Rattle.c_machine.specs.Meaning.{or_overflow, value as value_of, form_value, place as place_of};
 ghost use Rattle.c_machine.specs.Numbers.{operated};
@@ -14,7 +14,7 @@ use crate::world::{Reply, World, known_value, variable_cell};
 use atac_base::place::NoMemory;
 use atac_base::probes::{Event, Probes};
 use c_tree::text::Text;
-use c_tree::tree::{BinaryOp, Expr, ExprProbe, Node};
+use first_tree::tree::{BinaryOp, Expr, ExprProbe, Node};
 use std::alloc::Global;
 
 /// What waits for a value.

@@ -1,6 +1,6 @@
 ghost use Rattle.std.specs.Prelude.{◌≡◌, ◌++◌, ◌∷◌, [], true, false, suc, List, length, OnOk, IfOk, None};
 ghost use Rattle.atac_base.specs.declared.probes.Event.{Event};
-ghost use Rattle.c_tree.specs.View.{note_shape};
+ghost use Rattle.first_tree.specs.View.{note_shape};
 ghost use Rattle.c_machine.specs.Results.{State, Gives};
 ghost use Rattle.c_machine.specs.Meaning.{variable, read as read_of, write as write_of, constant, next_byte as next_byte_of, called, called_on};
 ghost use Rattle.c_machine.specs.Rest.{state_of, replied};
@@ -9,7 +9,7 @@ use crate::end::{Fault, Stop};
 use crate::numbers::{int_value, low_byte};
 use atac_base::place::NoMemory;
 use c_tree::text::Text;
-use c_tree::tree::Note;
+use first_tree::tree::Note;
 
 /// What a run changes: the variables' cells, the input that is left, the output and the turns that are left.
 #[derive(Drop)]

@@ -1,4 +1,5 @@
 pub mod Shape
 pub mod View
-pub mod Blocks
-pub mod Instrumented
+pub mod Forms
+pub mod Grammar
+pub mod Levels

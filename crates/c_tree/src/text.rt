@@ -50,6 +50,16 @@ impl Text {
         }
     }
 
+    /// A copy of this list.
+    pub fn copy(&self, alloc: Global) -> Result<Text, NoMemory>
+        ensures { IfOk result (λ t. t ≡ self.now) }
+    {
+        match Vec::from_slice(alloc, self.bytes.as_slice()) {
+            Ok(bytes) => Ok(Text { bytes }),
+            Err(_) => Err(NoMemory),
+        }
+    }
+
     /// The number of bytes.
     pub fn len(&self) -> u32
         ensures { result ≡ length self.now }

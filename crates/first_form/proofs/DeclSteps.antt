@@ -1,12 +1,12 @@
 -- The steps of what the code makes of declarations.
 use Rattle.std.proofs.Common.{◌≡◌, List, [], ◌∷◌, ◌++◌, map, Option, Some, None, true, refl, sym, ap, subst, append-nil}
 use Rattle.c_tree.specs.declared.text.Text.{Text}
-use Rattle.c_tree.specs.declared.token.Mark.TheVariants as mark
-use Rattle.c_tree.specs.declared.token.Key.TheVariants as key
-use Rattle.c_tree.specs.declared.token.Token.{Token}
-use Rattle.c_tree.specs.declared.tree.Decl.{Decl}
-use Rattle.c_tree.specs.Shape.{NodeShape, DeclShape}
-use Rattle.c_tree.specs.View.{decl_shape}
+use Rattle.first_tree.specs.declared.token.Mark.TheVariants as mark
+use Rattle.first_tree.specs.declared.token.Key.TheVariants as key
+use Rattle.first_tree.specs.declared.token.Token.{Token}
+use Rattle.first_tree.specs.declared.tree.Decl.{Decl}
+use Rattle.first_tree.specs.Shape.{NodeShape, DeclShape}
+use Rattle.first_tree.specs.View.{decl_shape}
 use Rattle.first_form.specs.Look.{head, a_word, place, after, after_key, Got, then_go, Finds}
 use Rattle.first_form.specs.Reader.{Declared, is_new, inits, decl_at, declares, reads_decls}
 use Rattle.first_form.specs.Reading.{decls_onto}

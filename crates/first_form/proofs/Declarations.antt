@@ -3,11 +3,11 @@ use Rattle.std.proofs.Common.{◌≡◌, ℕ, zero, suc, ◌+◌, ◌≤◌, Lis
 use Rattle.std.specs.Prelude.{option_map, is_none, ◌&&◌}
 use Rattle.atac_base.specs.declared.place.Pos.{Pos}
 use Rattle.c_tree.specs.declared.text.Text.{Text}
-use Rattle.c_tree.specs.declared.token.Mark.TheVariants as mark
-use Rattle.c_tree.specs.declared.token.Key.TheVariants as key
-use Rattle.c_tree.specs.declared.token.Token.{Token}
-use Rattle.c_tree.specs.declared.tree.Named.{Named}
-use Rattle.c_tree.specs.Shape.{NodeShape, DeclaratorShape, DeclShape}
+use Rattle.first_tree.specs.declared.token.Mark.TheVariants as mark
+use Rattle.first_tree.specs.declared.token.Key.TheVariants as key
+use Rattle.first_tree.specs.declared.token.Token.{Token}
+use Rattle.first_tree.specs.declared.tree.Named.{Named}
+use Rattle.first_tree.specs.Shape.{NodeShape, DeclaratorShape, DeclShape}
 use Rattle.first_form.specs.declared.words.Role.{Role}
 use Rattle.first_form.specs.declared.words.Role.TheVariants as role
 use Rattle.first_form.specs.Look.{Head, head, a_word, a_number, a_mark, a_key, no_token, is_word, place, after_head, after, after_key_head, after_key, Got, got, then_go, go_after, where_true, Finds}

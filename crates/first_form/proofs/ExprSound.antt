@@ -4,11 +4,11 @@ use Rattle.std.proofs.lemmas.Bool.{ltb-true, ltb-false}
 use Rattle.std.specs.Prelude.{nat_lt, option_map}
 use Rattle.atac_base.specs.declared.place.Pos.{Pos}
 use Rattle.c_tree.specs.declared.text.Text.{Text}
-use Rattle.c_tree.specs.declared.token.Mark.TheVariants as mark
-use Rattle.c_tree.specs.declared.token.Token.{Token}
-use Rattle.c_tree.specs.declared.tree.BinaryOp.{BinaryOp}
-use Rattle.c_tree.specs.Shape.{NodeShape, node, paren, call, assign, no_nodes, more_nodes}
-use Rattle.c_tree.specs.Blocks.{place_of}
+use Rattle.first_tree.specs.declared.token.Mark.TheVariants as mark
+use Rattle.first_tree.specs.declared.token.Token.{Token}
+use Rattle.first_tree.specs.declared.tree.BinaryOp.{BinaryOp}
+use Rattle.first_tree.specs.Shape.{NodeShape, node, paren, call, assign, no_nodes, more_nodes}
+use Rattle.first_tree.specs.Blocks.{place_of}
 use Rattle.first_form.specs.declared.words.Role.{Role}
 use Rattle.first_form.specs.declared.words.Role.TheVariants as role
 use Rattle.first_form.specs.Look.{Head, head, a_word, a_number, a_mark, a_key, no_token, place, after, Signed, a_sign, no_sign, sign, Target, to_set, no_target, target, got, then_go, expect, where_true}

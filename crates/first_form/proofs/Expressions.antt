@@ -3,13 +3,13 @@ use Rattle.std.proofs.Common.{◌≡◌, ℕ, ◌+◌, ◌<◌, ◌≤◌, List,
 use Rattle.std.specs.Prelude.{option_map}
 use Rattle.atac_base.specs.declared.place.Pos.{Pos}
 use Rattle.c_tree.specs.declared.text.Text.{Text}
-use Rattle.c_tree.specs.declared.token.Mark.{Mark}
-use Rattle.c_tree.specs.declared.token.Mark.TheVariants as mark
-use Rattle.c_tree.specs.declared.token.Token.{Token}
-use Rattle.c_tree.specs.declared.tree.BinaryOp.{BinaryOp}
-use Rattle.c_tree.specs.declared.tree.BinaryOp.TheVariants as op
-use Rattle.c_tree.specs.Shape.{NoteShape, NodeShape, node, ExprShape, number, name, paren, call, binary, assign, probe, no_nodes, more_nodes}
-use Rattle.c_tree.specs.Blocks.{place_of}
+use Rattle.first_tree.specs.declared.token.Mark.{Mark}
+use Rattle.first_tree.specs.declared.token.Mark.TheVariants as mark
+use Rattle.first_tree.specs.declared.token.Token.{Token}
+use Rattle.first_tree.specs.declared.tree.BinaryOp.{BinaryOp}
+use Rattle.first_tree.specs.declared.tree.BinaryOp.TheVariants as op
+use Rattle.first_tree.specs.Shape.{NoteShape, NodeShape, node, ExprShape, number, name, paren, call, binary, assign, probe, no_nodes, more_nodes}
+use Rattle.first_tree.specs.Blocks.{place_of}
 use Rattle.first_form.specs.Look.{a_mark, place, after_head, after, Signed, a_sign, no_sign, sign_head, sign, no_target, target_head, target, Got, got, Finds}
 use Rattle.first_form.specs.Words.{role_of}
 use Rattle.first_form.specs.Grammar.{Marked, mark_of, Written, op_level, level, an_int, Shaped, height}

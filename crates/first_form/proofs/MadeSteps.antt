@@ -3,16 +3,16 @@ use Rattle.std.proofs.Common.{◌≡◌, ℕ, ◌+◌, ◌<◌, List, [], ◌∷
 use Rattle.std.specs.Fmt.{decimal}
 use Rattle.atac_base.specs.declared.place.Pos.{Pos}
 use Rattle.c_tree.specs.declared.text.Text.{Text}
-use Rattle.c_tree.specs.declared.token.Mark.TheVariants as mark
-use Rattle.c_tree.specs.declared.token.Key.TheVariants as key
-use Rattle.c_tree.specs.declared.token.Token.{Token}
-use Rattle.c_tree.specs.declared.tree.ProbeMark.{ProbeMark}
-use Rattle.c_tree.specs.declared.tree.Item.{Item}
-use Rattle.c_tree.specs.declared.tree.Stmt.{Stmt}
-use Rattle.c_tree.specs.Shape.{NodeShape, node, probe, block, StmtShape, stmt, FormShape, compound, plain, when, while, return, braces, StmtShapes, no_stmts, more_stmts}
-use Rattle.c_tree.specs.View.{stmt_shape, stmt_list}
-use Rattle.c_tree.specs.Blocks.{place_of, parts, counted, blocks_of, blocks_in, blocks_along}
-use Rattle.c_tree.specs.Instrumented.{marks_at, past, probed_test, instr_stmt, instr_form, instr_list}
+use Rattle.first_tree.specs.declared.token.Mark.TheVariants as mark
+use Rattle.first_tree.specs.declared.token.Key.TheVariants as key
+use Rattle.first_tree.specs.declared.token.Token.{Token}
+use Rattle.first_tree.specs.declared.tree.ProbeMark.{ProbeMark}
+use Rattle.first_tree.specs.declared.tree.Item.{Item}
+use Rattle.first_tree.specs.declared.tree.Stmt.{Stmt}
+use Rattle.first_tree.specs.Shape.{NodeShape, node, probe, block, StmtShape, stmt, FormShape, compound, plain, when, while, return, braces, StmtShapes, no_stmts, more_stmts}
+use Rattle.first_tree.specs.View.{stmt_shape, stmt_list}
+use Rattle.first_tree.specs.Blocks.{place_of, parts, counted, blocks_of, blocks_in, blocks_along}
+use Rattle.first_tree.specs.Instrumented.{marks_at, past, probed_test, instr_stmt, instr_form, instr_list}
 use Rattle.first_form.specs.Look.{place, after, after_key, got, Finds}
 use Rattle.first_form.specs.Grammar.{an_int}
 use Rattle.first_form.specs.Reader.{reads_e, parens, stmt_at, reads_stmt, reads_stmts}

@@ -4,17 +4,17 @@ use mathlib.Core.Former.{Count}
 use Rattle.std.specs.declared.vec.Vec.{Vec}
 use Rattle.std.specs.declared.alloc.Global.{Global}
 use Rattle.c_tree.specs.declared.text.Text.{Text}
-use Rattle.c_tree.specs.declared.tree.Node.{Node}
-use Rattle.c_tree.specs.declared.tree.Expr.{Row_of-Node, end_of-Node, more_of-Node, items-the_row-Node, items_hidden-the_row-Node-0}
-use Rattle.c_tree.specs.declared.tree.Expr.TheBlock.{hidden-the_row-Node-0}
-use Rattle.c_tree.specs.declared.tree.Expr.TheVariants.{Call}
-use Rattle.c_tree.specs.declared.tree.Decl.{Decl}
-use Rattle.c_tree.specs.declared.tree.Item.{Item}
-use Rattle.c_tree.specs.declared.tree.Compound.{roll-Compound, rolls-Compound', Row_of-Item, end_of-Item, more_of-Item, items-the_row-Item, items_hidden-the_row-Item-0}
-use Rattle.c_tree.specs.declared.tree.StmtForm.TheBlock.{hidden-the_row-Item-0}
+use Rattle.first_tree.specs.declared.tree.Node.{Node}
+use Rattle.first_tree.specs.declared.tree.Expr.{Row_of-Node, end_of-Node, more_of-Node, items-the_row-Node, items_hidden-the_row-Node-0}
+use Rattle.first_tree.specs.declared.tree.Expr.TheBlock.{hidden-the_row-Node-0}
+use Rattle.first_tree.specs.declared.tree.Expr.TheVariants.{Call}
+use Rattle.first_tree.specs.declared.tree.Decl.{Decl}
+use Rattle.first_tree.specs.declared.tree.Item.{Item}
+use Rattle.first_tree.specs.declared.tree.Compound.{roll-Compound, rolls-Compound', Row_of-Item, end_of-Item, more_of-Item, items-the_row-Item, items_hidden-the_row-Item-0}
+use Rattle.first_tree.specs.declared.tree.StmtForm.TheBlock.{hidden-the_row-Item-0}
 use Rattle.atac_base.specs.declared.place.Pos.{Pos}
-use Rattle.c_tree.specs.Shape.{call, braces}
-use Rattle.c_tree.specs.View.{expr_shape, nodes_shape, node_list, decl_shape, compound_shape, items_shape, stmt_list}
+use Rattle.first_tree.specs.Shape.{call, braces}
+use Rattle.first_tree.specs.View.{expr_shape, nodes_shape, node_list, decl_shape, compound_shape, items_shape, stmt_list}
 
 pub nodes_row : (n : Count) (k : Row_of-Node n) → nodes_shape k ≡ node_list (items-the_row-Node n k)
 nodes_row _ end_of-Node = refl

@@ -4,13 +4,13 @@ use Rattle.std.proofs.lemmas.Bool.{eqb-true}
 use Rattle.std.specs.Prelude.{nat_eq}
 use Rattle.atac_base.specs.declared.place.Pos.{Pos}
 use Rattle.c_tree.specs.declared.text.Text.{Text}
-use Rattle.c_tree.specs.declared.token.Mark.{Mark}
-use Rattle.c_tree.specs.declared.token.Mark.TheVariants as mark
-use Rattle.c_tree.specs.declared.token.Key.{Key}
-use Rattle.c_tree.specs.declared.token.Key.TheVariants as key
-use Rattle.c_tree.specs.declared.token.Token.{Token}
-use Rattle.c_tree.specs.declared.tree.ProbeMark.{ProbeMark}
-use Rattle.c_tree.specs.Shape.{NodeShape, node, number, name, paren, call, binary, assign, probe, StmtShape, stmt, FormShape, compound, plain, when, while, return, braces, StmtShapes, no_stmts, more_stmts}
+use Rattle.first_tree.specs.declared.token.Mark.{Mark}
+use Rattle.first_tree.specs.declared.token.Mark.TheVariants as mark
+use Rattle.first_tree.specs.declared.token.Key.{Key}
+use Rattle.first_tree.specs.declared.token.Key.TheVariants as key
+use Rattle.first_tree.specs.declared.token.Token.{Token}
+use Rattle.first_tree.specs.declared.tree.ProbeMark.{ProbeMark}
+use Rattle.first_tree.specs.Shape.{NodeShape, node, number, name, paren, call, binary, assign, probe, StmtShape, stmt, FormShape, compound, plain, when, while, return, braces, StmtShapes, no_stmts, more_stmts}
 use Rattle.first_form.specs.Look.{Head, head, a_word, a_number, a_mark, a_key, no_token, place, mark_code, if_so, after_head, after, after_key_head, after_key, got, Finds}
 use Rattle.first_form.specs.Grammar.{Marked, Written, WrittenStmt, WrittenStmts, ShapedStmt, ShapedStmts, height_stmt, height_stmts}
 use Rattle.first_form.specs.Reader.{stmt_at, reads_stmt, reads_stmts}

@@ -4,13 +4,13 @@ use Rattle.std.proofs.lemmas.Bool.{lt-ltb}
 use Rattle.std.specs.Prelude.{nat_lt, option_map}
 use Rattle.atac_base.specs.declared.place.Pos.{Pos}
 use Rattle.c_tree.specs.declared.text.Text.{Text}
-use Rattle.c_tree.specs.declared.token.Mark.{Mark}
-use Rattle.c_tree.specs.declared.token.Mark.TheVariants as mark
-use Rattle.c_tree.specs.declared.token.Key.{Key}
-use Rattle.c_tree.specs.declared.token.Token.{Token}
-use Rattle.c_tree.specs.declared.tree.BinaryOp.{BinaryOp}
-use Rattle.c_tree.specs.Shape.{NodeShape, node, paren, call, no_nodes, more_nodes, assign}
-use Rattle.c_tree.specs.Blocks.{place_of}
+use Rattle.first_tree.specs.declared.token.Mark.{Mark}
+use Rattle.first_tree.specs.declared.token.Mark.TheVariants as mark
+use Rattle.first_tree.specs.declared.token.Key.{Key}
+use Rattle.first_tree.specs.declared.token.Token.{Token}
+use Rattle.first_tree.specs.declared.tree.BinaryOp.{BinaryOp}
+use Rattle.first_tree.specs.Shape.{NodeShape, node, paren, call, no_nodes, more_nodes, assign}
+use Rattle.first_tree.specs.Blocks.{place_of}
 use Rattle.first_form.specs.declared.words.Role.{Role}
 use Rattle.first_form.specs.declared.words.Role.TheVariants as role
 use Rattle.first_form.specs.Look.{head, a_word, a_number, a_mark, a_key, no_token, place, after, Signed, a_sign, no_sign, sign, to_set, no_target, target, Got, got, then_go, go_after, wanted, expect, where_true, found, when_some, Finds}

@@ -3,10 +3,10 @@ use Rattle.std.proofs.Common.{◌≡◌, ℕ, zero, suc, ◌+◌, ◌<◌, ◌�
 use Rattle.std.proofs.lemmas.Bool.{ltb-true}
 use Rattle.std.specs.Prelude.{nat_lt}
 use Rattle.c_tree.specs.declared.text.Text.{Text}
-use Rattle.c_tree.specs.declared.token.Mark.TheVariants as mark
-use Rattle.c_tree.specs.declared.token.Key.TheVariants as key
-use Rattle.c_tree.specs.declared.token.Token.{Token}
-use Rattle.c_tree.specs.Shape.{StmtShape, compound, plain, when, while, return, braces, StmtShapes, no_stmts, more_stmts}
+use Rattle.first_tree.specs.declared.token.Mark.TheVariants as mark
+use Rattle.first_tree.specs.declared.token.Key.TheVariants as key
+use Rattle.first_tree.specs.declared.token.Token.{Token}
+use Rattle.first_tree.specs.Shape.{StmtShape, compound, plain, when, while, return, braces, StmtShapes, no_stmts, more_stmts}
 use Rattle.first_form.specs.Look.{place, after, after_key, got, then_go}
 use Rattle.first_form.specs.Grammar.{Marked, Keyed, WrittenStmt, WrittenStmts, ShapedStmt, ShapedStmts, height, height_stmt, height_stmts}
 use Rattle.first_form.specs.Reader.{in_parens, reads_e, stmt_at, when_at, while_at, return_at, plain_at, compound_at, joined, items, reads_stmt, reads_stmts}

@@ -3,11 +3,11 @@ use Rattle.std.proofs.Common.{◌≡◌, ◌+◌, ◌<◌, ◌≤◌, List, [], 
 use Rattle.std.specs.Fmt.{decimal}
 use Rattle.atac_base.specs.declared.place.Pos.{Pos}
 use Rattle.c_tree.specs.declared.text.Text.{Text}
-use Rattle.c_tree.specs.declared.token.Mark.TheVariants as mark
-use Rattle.c_tree.specs.declared.token.Token.{Token}
-use Rattle.c_tree.specs.Shape.{DeclShape, StmtShapes, UnitShape}
-use Rattle.c_tree.specs.Blocks.{blocks, blocks_along}
-use Rattle.c_tree.specs.Instrumented.{instr_list}
+use Rattle.first_tree.specs.declared.token.Mark.TheVariants as mark
+use Rattle.first_tree.specs.declared.token.Token.{Token}
+use Rattle.first_tree.specs.Shape.{DeclShape, StmtShapes, UnitShape}
+use Rattle.first_tree.specs.Blocks.{blocks, blocks_along}
+use Rattle.first_tree.specs.Instrumented.{instr_list}
 use Rattle.first_form.specs.Look.{place, after, got, go_after, Finds}
 use Rattle.first_form.specs.Grammar.{IsProgram}
 use Rattle.first_form.specs.Reader.{reads_decls, reads_stmts, header, a_header, main_at, at_end, reads_rest, reads_body, reads_unit}

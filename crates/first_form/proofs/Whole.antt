@@ -5,12 +5,12 @@ use Rattle.std.specs.Prelude.{codes}
 use Rattle.std.specs.Str.{bytes_eq}
 use Rattle.atac_base.specs.declared.place.Pos.{Pos}
 use Rattle.c_tree.specs.declared.text.Text.{Text}
-use Rattle.c_tree.specs.declared.token.Mark.TheVariants as mark
-use Rattle.c_tree.specs.declared.token.Key.TheVariants as key
-use Rattle.c_tree.specs.declared.token.Token.{Token}
-use Rattle.c_tree.specs.declared.tree.ProbeMark.{ProbeMark}
-use Rattle.c_tree.specs.Shape.{DeclaratorShape, DeclShape, braces, StmtShapes, ExternalShape, function, UnitShape}
-use Rattle.c_tree.specs.Blocks.{blocks}
+use Rattle.first_tree.specs.declared.token.Mark.TheVariants as mark
+use Rattle.first_tree.specs.declared.token.Key.TheVariants as key
+use Rattle.first_tree.specs.declared.token.Token.{Token}
+use Rattle.first_tree.specs.declared.tree.ProbeMark.{ProbeMark}
+use Rattle.first_tree.specs.Shape.{DeclaratorShape, DeclShape, braces, StmtShapes, ExternalShape, function, UnitShape}
+use Rattle.first_tree.specs.Blocks.{blocks}
 use Rattle.first_form.specs.declared.words.Role.{Role}
 use Rattle.first_form.specs.declared.words.Role.TheVariants as role
 use Rattle.first_form.specs.Look.{Head, head, a_word, a_number, a_mark, a_key, no_token, place, after_head, after, after_key_head, after_key, Got, got, then_go, go_after, Finds}

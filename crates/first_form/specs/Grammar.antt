@@ -5,16 +5,16 @@ use Rattle.std.specs.Fmt.{decimal}
 use Rattle.atac_base.specs.declared.place.Pos.{Pos}
 use Rattle.atac_base.specs.declared.place.IntKind.TheVariants as kinds
 use Rattle.c_tree.specs.declared.text.Text.{Text}
-use Rattle.c_tree.specs.declared.token.Mark.{Mark}
-use Rattle.c_tree.specs.declared.token.Mark.TheVariants as mark
-use Rattle.c_tree.specs.declared.token.Key.{Key}
-use Rattle.c_tree.specs.declared.token.Key.TheVariants as key
-use Rattle.c_tree.specs.declared.token.Token.{Token}
-use Rattle.c_tree.specs.declared.tree.BinaryOp.{BinaryOp}
-use Rattle.c_tree.specs.declared.tree.BinaryOp.TheVariants as op
-use Rattle.c_tree.specs.declared.tree.Named.{Named}
-use Rattle.c_tree.specs.Shape.{int, NoteShape, typed, known, NodeShape, node, ExprShape, number, name, paren, call, binary, assign, probe, NodeShapes, no_nodes, more_nodes, DeclaratorShape, DeclShape, StmtShape, stmt, FormShape, compound, plain, when, while, return, CompoundShape, braces, StmtShapes, no_stmts, more_stmts, ExternalShape, function, UnitShape}
-use Rattle.c_tree.specs.Blocks.{blocks}
+use Rattle.first_tree.specs.declared.token.Mark.{Mark}
+use Rattle.first_tree.specs.declared.token.Mark.TheVariants as mark
+use Rattle.first_tree.specs.declared.token.Key.{Key}
+use Rattle.first_tree.specs.declared.token.Key.TheVariants as key
+use Rattle.first_tree.specs.declared.token.Token.{Token}
+use Rattle.first_tree.specs.declared.tree.BinaryOp.{BinaryOp}
+use Rattle.first_tree.specs.declared.tree.BinaryOp.TheVariants as op
+use Rattle.first_tree.specs.declared.tree.Named.{Named}
+use Rattle.first_tree.specs.Shape.{int, NoteShape, typed, known, NodeShape, node, ExprShape, number, name, paren, call, binary, assign, probe, NodeShapes, no_nodes, more_nodes, DeclaratorShape, DeclShape, StmtShape, stmt, FormShape, compound, plain, when, while, return, CompoundShape, braces, StmtShapes, no_stmts, more_stmts, ExternalShape, function, UnitShape}
+use Rattle.first_tree.specs.Blocks.{blocks}
 use Rattle.first_form.specs.declared.words.Role.{Role}
 use Rattle.first_form.specs.declared.words.Role.TheVariants as role
 use Rattle.first_form.specs.Look.{head, a_word, a_number, a_mark, a_key, place}

@@ -2,12 +2,12 @@
 use Rattle.std.specs.Prelude.{◌≡◌, ℕ, Bool, List, [], ◌∷◌, ◌++◌, length}
 use Rattle.atac_base.specs.declared.place.Pos.{Pos}
 use Rattle.c_tree.specs.declared.text.Text.{Text}
-use Rattle.c_tree.specs.declared.token.Token.{Token}
-use Rattle.c_tree.specs.declared.tree.Item.{Item}
-use Rattle.c_tree.specs.Shape.{StmtShape, FormShape, StmtShapes, more_stmts}
-use Rattle.c_tree.specs.View.{stmt_shape}
-use Rattle.c_tree.specs.Blocks.{blocks_of, blocks_in, blocks_along}
-use Rattle.c_tree.specs.Instrumented.{instr_stmt, instr_form, instr_list}
+use Rattle.first_tree.specs.declared.token.Token.{Token}
+use Rattle.first_tree.specs.declared.tree.Item.{Item}
+use Rattle.first_tree.specs.Shape.{StmtShape, FormShape, StmtShapes, more_stmts}
+use Rattle.first_tree.specs.View.{stmt_shape}
+use Rattle.first_tree.specs.Blocks.{blocks_of, blocks_in, blocks_along}
+use Rattle.first_tree.specs.Instrumented.{instr_stmt, instr_form, instr_list}
 use Rattle.first_form.specs.Look.{place, got, Finds}
 use Rattle.first_form.specs.Reader.{stmt_at, reads_stmt, reads_stmts}
 

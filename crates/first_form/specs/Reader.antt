@@ -2,12 +2,12 @@
 use Rattle.std.specs.Prelude.{ℕ, zero, suc, ◌+◌, List, [], ◌∷◌, ◌++◌, Option, Some, None, option_map, Bool, true, false, ◌&&◌, nat_lt, is_none, codes}
 use Rattle.atac_base.specs.declared.place.Pos.{Pos}
 use Rattle.c_tree.specs.declared.text.Text.{Text}
-use Rattle.c_tree.specs.declared.token.Mark.TheVariants as mark
-use Rattle.c_tree.specs.declared.token.Key.TheVariants as key
-use Rattle.c_tree.specs.declared.token.Token.{Token}
-use Rattle.c_tree.specs.declared.tree.BinaryOp.{BinaryOp}
-use Rattle.c_tree.specs.Shape.{NodeShape, node, number, name, paren, call, binary, assign, no_nodes, more_nodes, DeclShape, StmtShape, stmt, FormShape, compound, plain, when, while, return, braces, StmtShapes, no_stmts, more_stmts, function, UnitShape}
-use Rattle.c_tree.specs.Blocks.{place_of}
+use Rattle.first_tree.specs.declared.token.Mark.TheVariants as mark
+use Rattle.first_tree.specs.declared.token.Key.TheVariants as key
+use Rattle.first_tree.specs.declared.token.Token.{Token}
+use Rattle.first_tree.specs.declared.tree.BinaryOp.{BinaryOp}
+use Rattle.first_tree.specs.Shape.{NodeShape, node, number, name, paren, call, binary, assign, no_nodes, more_nodes, DeclShape, StmtShape, stmt, FormShape, compound, plain, when, while, return, braces, StmtShapes, no_stmts, more_stmts, function, UnitShape}
+use Rattle.first_tree.specs.Blocks.{place_of}
 use Rattle.first_form.specs.declared.words.Role.{Role}
 use Rattle.first_form.specs.declared.words.Role.TheVariants as role
 use Rattle.first_form.specs.Look.{Head, head, a_word, a_number, a_mark, a_key, no_token, place, after, after_key, Signed, a_sign, no_sign, sign, Target, to_set, no_target, target, Got, then_go, go_after, expect, where_true, either_way, found, when_some}

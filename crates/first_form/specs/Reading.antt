@@ -2,10 +2,10 @@
 use Rattle.std.specs.Prelude.{◌≡◌, List, [], ◌∷◌, ◌++◌, Some, None, codes}
 use Rattle.atac_base.specs.declared.place.Pos.{Pos}
 use Rattle.c_tree.specs.declared.text.Text.{Text}
-use Rattle.c_tree.specs.declared.token.Token.{Token}
-use Rattle.c_tree.specs.Shape.{DeclShape, braces, StmtShapes, function, UnitShape}
-use Rattle.c_tree.specs.Blocks.{blocks}
-use Rattle.c_tree.specs.Instrumented.{instr}
+use Rattle.first_tree.specs.declared.token.Token.{Token}
+use Rattle.first_tree.specs.Shape.{DeclShape, braces, StmtShapes, function, UnitShape}
+use Rattle.first_tree.specs.Blocks.{blocks}
+use Rattle.first_tree.specs.Instrumented.{instr}
 use Rattle.first_form.specs.Look.{Got, got, Finds}
 use Rattle.first_form.specs.Grammar.{IsProgram}
 use Rattle.first_form.specs.Reader.{Declared, reads_rest, reads_body, reads_unit}

@@ -1,6 +1,6 @@
 ghost use Rattle.std.specs.Prelude.{◌≡◌, ℕ, ◌+◌, ◌<◌, ◌≤◌, List, [], ◌∷◌, ◌++◌, length, map, option_map, true, false, Some, None, IfOk, OnOk, IsErrOf};
-ghost use Rattle.c_tree.specs.declared.token.Key.TheVariants as key;
-ghost use Rattle.c_tree.specs.View.{init_shape, decl_shape};
+ghost use Rattle.first_tree.specs.declared.token.Key.TheVariants as key;
+ghost use Rattle.first_tree.specs.View.{init_shape, decl_shape};
 ghost use Rattle.first_form.specs.Look.{place, after_key, Got, then_go, Finds};
 ghost use Rattle.first_form.specs.Reader.{Declared, is_new, decl_at, declares, inits, reads_decls};
 
@@ -11,8 +11,8 @@ use crate::nodes::copied;
 use crate::words::{Role, read_role};
 use atac_base::place::Pos;
 use c_tree::text::Text;
-use c_tree::token::{Key, Mark, Token};
-use c_tree::tree::{Decl, Declarator, Init, Named};
+use first_tree::token::{Key, Mark, Token};
+use first_tree::tree::{Decl, Declarator, Init, Named};
 use std::alloc::Global;
 
 // An initialiser, where there is one, and what follows it.

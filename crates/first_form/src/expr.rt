@@ -1,5 +1,5 @@
 ghost use Rattle.std.specs.Prelude.{◌≡◌, ℕ, ◌+◌, ◌<◌, ◌≤◌, List, [], ◌∷◌, length, Some, None, IfOk, IsErrOf};
-ghost use Rattle.c_tree.specs.View.{node_shape};
+ghost use Rattle.first_tree.specs.View.{node_shape};
 ghost use Rattle.first_form.specs.Look.{head, a_word, target, to_set, Finds};
 ghost use Rattle.first_form.specs.Words.{role_of};
 ghost use Rattle.first_form.specs.Grammar.{op_level, height};
@@ -11,8 +11,8 @@ use crate::nodes::{get_node, name_node, number_node, paren_node, put_node, set_n
 use crate::words::{Role, read_role, value_of};
 use atac_base::place::Pos;
 use c_tree::text::Text;
-use c_tree::token::{Mark, Token, TokenKind};
-use c_tree::tree::{BinaryOp, Node};
+use first_tree::token::{Mark, Token, TokenKind};
+use first_tree::tree::{BinaryOp, Node};
 use std::alloc::Global;
 
 fn level_of(op: BinaryOp) -> u8

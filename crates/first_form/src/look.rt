@@ -3,8 +3,8 @@ ghost use Rattle.first_form.specs.Look.{head, a_word, is_word, place, after, aft
 
 use atac_base::place::Pos;
 use c_tree::text::Text;
-use c_tree::token::{Key, Mark, Token, TokenKind};
-use c_tree::tree::BinaryOp;
+use first_tree::token::{Key, Mark, Token, TokenKind};
+use first_tree::tree::BinaryOp;
 
 /// Why the reading stops.
 #[derive(Clone, Copy, Debug, PartialEq, Eq)]

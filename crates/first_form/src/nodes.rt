@@ -1,13 +1,13 @@
 ghost use Rattle.std.specs.Prelude.{◌≡◌, ◌+◌, ◌<◌, ◌≤◌, [], ◌∷◌, ◌++◌, Some, None, IfOk, IsErrOf};
-ghost use Rattle.c_tree.specs.Shape.{node, paren, call, no_nodes, more_nodes, assign, probe};
-ghost use Rattle.c_tree.specs.View.{node_shape, node_list};
+ghost use Rattle.first_tree.specs.Shape.{node, paren, call, no_nodes, more_nodes, assign, probe};
+ghost use Rattle.first_tree.specs.View.{node_shape, node_list};
 ghost use Rattle.first_form.specs.Grammar.{an_int};
 ghost use Rattle.first_form.specs.Reader.{name_at, number_at, get_at, two_at};
 
 use crate::look::Stop;
 use atac_base::place::{IntKind, Pos};
 use c_tree::text::Text;
-use c_tree::tree::{BinaryOp, CType, Expr, Node, Note};
+use first_tree::tree::{BinaryOp, CType, Expr, Node, Note};
 use std::alloc::Global;
 
 /// A copy of a text.

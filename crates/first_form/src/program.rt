@@ -1,7 +1,7 @@
 ghost use Rattle.std.specs.Prelude.{◌≡◌, ℕ, ◌+◌, ◌<◌, ◌≤◌, List, [], ◌∷◌, ◌++◌, length, map, codes, Some, None, IfOk, OnOk, IfSome, IfNone, IsErrOf, MatchOption};
 ghost use Rattle.std.specs.Fmt.{decimal};
-ghost use Rattle.c_tree.specs.Shape.{function, braces, UnitShape};
-ghost use Rattle.c_tree.specs.View.{declarator_shape, decl_shape, compound_shape, stmt_list, unit_shape};
+ghost use Rattle.first_tree.specs.Shape.{function, braces, UnitShape};
+ghost use Rattle.first_tree.specs.View.{declarator_shape, decl_shape, compound_shape, stmt_list, unit_shape};
 ghost use Rattle.first_form.specs.Look.{place, Finds};
 ghost use Rattle.first_form.specs.Grammar.{IsProgram};
 ghost use Rattle.first_form.specs.Reader.{Declared, after_main, header, a_header, no_header, reads_rest, reads_body, reads_unit};
@@ -15,8 +15,8 @@ use crate::words::{Role, read_role};
 use atac_base::items::Items;
 use atac_base::place::{NoMemory, Pos};
 use c_tree::text::Text;
-use c_tree::token::{Key, Mark, Token, TokenKind};
-use c_tree::tree::{Compound, Decl, Declarator, External, Item, Named, ProbeMark, Unit};
+use first_tree::token::{Key, Mark, Token, TokenKind};
+use first_tree::tree::{Compound, Decl, Declarator, External, Item, Named, ProbeMark, Unit};
 use std::alloc::Global;
 
 /// A program with its probes, and the places of its blocks.

@@ -1,11 +1,11 @@
 ghost use Rattle.std.specs.Prelude.{◌≡◌, ℕ, ◌+◌, ◌<◌, ◌≤◌, List, [], ◌∷◌, ◌++◌, length, is_some, true, false, Some, None, IfOk, OnOk, IsErrOf};
 ghost use Rattle.std.specs.Fmt.{decimal};
-ghost use Rattle.c_tree.specs.declared.token.Key.TheVariants as key;
-ghost use Rattle.c_tree.specs.declared.token.Mark.TheVariants as mark;
-ghost use Rattle.c_tree.specs.Shape.{node, when, while, block, probe, compound, braces};
-ghost use Rattle.c_tree.specs.View.{node_shape, form_shape, stmt_shape, stmt_list};
-ghost use Rattle.c_tree.specs.Blocks.{parts, counted};
-ghost use Rattle.c_tree.specs.Instrumented.{marks_at};
+ghost use Rattle.first_tree.specs.declared.token.Key.TheVariants as key;
+ghost use Rattle.first_tree.specs.declared.token.Mark.TheVariants as mark;
+ghost use Rattle.first_tree.specs.Shape.{node, when, while, block, probe, compound, braces};
+ghost use Rattle.first_tree.specs.View.{node_shape, form_shape, stmt_shape, stmt_list};
+ghost use Rattle.first_tree.specs.Blocks.{parts, counted};
+ghost use Rattle.first_tree.specs.Instrumented.{marks_at};
 ghost use Rattle.first_form.specs.Look.{after, after_key, Finds};
 ghost use Rattle.first_form.specs.Grammar.{an_int};
 ghost use Rattle.first_form.specs.Reader.{reads_stmt, reads_stmts};
@@ -16,8 +16,10 @@ use crate::look::{MOST_LEVELS, Stop, first_place, past, past_key};
 use crate::names::Names;
 use atac_base::place::{IntKind, Pos};
 use c_tree::text::Text;
-use c_tree::token::{Key, Mark, Token};
-use c_tree::tree::{CType, Compound, Expr, ExprProbe, Item, Node, Note, ProbeMark, Stmt, StmtForm};
+use first_tree::token::{Key, Mark, Token};
+use first_tree::tree::{
+    CType, Compound, Expr, ExprProbe, Item, Node, Note, ProbeMark, Stmt, StmtForm,
+};
 use std::alloc::Global;
 
 // A number as spelled.

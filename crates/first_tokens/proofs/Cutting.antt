@@ -1,7 +1,7 @@
 -- The steps of cutting.
 use Rattle.std.proofs.Common.{◌≡◌, ℕ, zero, suc, ◌<◌, ◌≤◌, List, [], ◌∷◌, length, take, drop, Option, Some, None, refl, ap, ◌∙◌, arith, length-drop}
 use Rattle.atac_base.specs.declared.place.Pos.{Pos}
-use Rattle.c_tree.specs.declared.token.Token.{Token}
+use Rattle.first_tree.specs.declared.token.Token.{Token}
 use Rattle.first_tokens.specs.declared.piece.Piece.{Piece}
 use Rattle.first_tokens.specs.Pieces.{front}
 use Rattle.first_tokens.specs.Tokens.{begin, moved, given, size_of, added, behind_piece, by_front, cut_in, tokens_of, Cuts}

@@ -1,7 +1,7 @@
 -- The pieces of a text: each is the longest front of the rest that is a blank, a word, a number or a mark (C89, 3.1).
 use Rattle.std.specs.Prelude.{ℕ, suc, ◌≤◌, ◌&&◌, ◌||◌, List, [], ◌∷◌, Bool, nat_eq, nat_le, cond, bytes_eq, codes}
-use Rattle.c_tree.specs.declared.token.Mark.TheVariants as mark
-use Rattle.c_tree.specs.declared.token.Key.TheVariants as key
+use Rattle.first_tree.specs.declared.token.Mark.TheVariants as mark
+use Rattle.first_tree.specs.declared.token.Key.TheVariants as key
 use Rattle.first_tokens.specs.declared.piece.Piece.{Piece}
 use Rattle.first_tokens.specs.declared.piece.Piece.TheVariants as piece
 use Rattle.first_tokens.specs.declared.words.Word.{Word}

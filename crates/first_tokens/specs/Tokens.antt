@@ -1,9 +1,9 @@
 -- The tokens of a text, each with its place: the pieces that aren't blanks. There are none where a piece isn't of the form.
 use Rattle.std.specs.Prelude.{◌≡◌, ℕ, zero, suc, ◌+◌, ◌<◌, List, [], ◌∷◌, ◌++◌, length, take, drop, Option, Some, None, Bool, true, false, nat_eq, nat_lt, cond}
 use Rattle.atac_base.specs.declared.place.Pos.{Pos}
-use Rattle.c_tree.specs.declared.token.Token.{Token}
-use Rattle.c_tree.specs.declared.token.TokenKind.{TokenKind}
-use Rattle.c_tree.specs.declared.token.TokenKind.TheVariants as kind
+use Rattle.first_tree.specs.declared.token.Token.{Token}
+use Rattle.first_tree.specs.declared.token.TokenKind.{TokenKind}
+use Rattle.first_tree.specs.declared.token.TokenKind.TheVariants as kind
 use Rattle.first_tokens.specs.declared.piece.Piece.{Piece}
 use Rattle.first_tokens.specs.declared.piece.Piece.TheVariants as piece
 use Rattle.first_tokens.specs.declared.words.Word.{Word}

@@ -1,7 +1,7 @@
 ghost use Rattle.std.specs.Prelude.{◌≡◌, ◌≤◌, length};
 ghost use Rattle.first_tokens.specs.Pieces.{is_blank, is_digit, is_letter, is_in_number, word_run, number_run, mark_front, front, HasLength};
 
-use c_tree::token::Mark;
+use first_tree::token::Mark;
 
 /// The longest piece in front of a text, with its length in bytes.
 #[derive(Clone, Copy, Debug)]

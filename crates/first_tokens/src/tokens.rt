@@ -1,13 +1,13 @@
 ghost use Rattle.std.specs.Prelude.{◌≡◌, ◌+◌, ◌<◌, ◌≤◌, ◌^◌, [], ◌∷◌, ◌++◌, length, Some, None, OnOk, IfOk, IfErr, IsErrOf, IfSome, option_map, vec_len};
 ghost use Rattle.first_tokens.specs.Tokens.{moved, Refused, given, given_of, size_of, added, tokens_of, Cuts, begin};
 ghost use Rattle.first_tokens.specs.Pieces.{HasLength};
-ghost use Rattle.c_tree.specs.declared.token.Token.{Token};
+ghost use Rattle.first_tree.specs.declared.token.Token.{Token};
 
 use crate::piece::{Piece, longest};
 use crate::words::{Word, read_word};
 use atac_base::place::{NoMemory, Pos};
 use c_tree::text::Text;
-use c_tree::token::{Token, TokenKind};
+use first_tree::token::{Token, TokenKind};
 use std::alloc::Global;
 
 /// The most tokens that a text of the first form has.

@@ -1,7 +1,7 @@
 ghost use Rattle.std.specs.Prelude.{◌≡◌};
 ghost use Rattle.first_tokens.specs.Pieces.{is_other_key, is_left_out, is_probe_word, word_of};
 
-use c_tree::token::Key;
+use first_tree::token::Key;
 
 /// What a word is.
 #[derive(Clone, Copy, Debug)]

@@ -1,5 +1,5 @@
 use Rattle.std.proofs.Common.{◌≡◌, length, map}
-use Rattle.c_tree.specs.View.{declarator_shape, decl_shape}
+use Rattle.first_tree.specs.View.{declarator_shape, decl_shape}
 use Rattle.c_machine.specs.Todo.{names_of}
 use Rattle.c_machine.proofs.machine.next_declarator.Given as goal
 

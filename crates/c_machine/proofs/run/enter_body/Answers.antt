@@ -1,4 +1,4 @@
-use Rattle.c_tree.specs.View.{compound_shape}
+use Rattle.first_tree.specs.View.{compound_shape}
 use Rattle.c_machine.specs.Rest.{state_of}
 use Rattle.c_machine.proofs.Fronts.{braces_front}
 use Rattle.std.proofs.lemmas.Result.{err_from_is_err_and}

@@ -1,5 +1,5 @@
 use Rattle.std.proofs.Common.{◌∙◌, [], sym, ap, subst, map, append-nil}
-use Rattle.c_tree.specs.View.{external_shape, program_shape}
+use Rattle.first_tree.specs.View.{external_shape, program_shape}
 use Rattle.c_machine.proofs.Runs.{run_is, run_err}
 use Rattle.std.proofs.lemmas.Result.{err_from_is_err_and}
 use Rattle.c_machine.proofs.run.run.Goals as goal

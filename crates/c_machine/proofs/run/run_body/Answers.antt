@@ -1,5 +1,5 @@
 use Rattle.std.proofs.Common.{None}
-use Rattle.c_tree.specs.View.{compound_shape}
+use Rattle.first_tree.specs.View.{compound_shape}
 use Rattle.c_machine.specs.Results.{turn}
 use Rattle.c_machine.specs.Meaning.{loops, braces_flow}
 use Rattle.c_machine.specs.Rest.{state_of}

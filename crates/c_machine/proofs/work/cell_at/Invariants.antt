@@ -1,5 +1,5 @@
 use Rattle.std.proofs.Common.{◌≡◌}
-use Rattle.c_tree.specs.View.{node_shape}
+use Rattle.first_tree.specs.View.{node_shape}
 use Rattle.c_machine.specs.Results.{State}
 use Rattle.c_machine.specs.Meaning.{place}
 use Rattle.c_machine.proofs.work.cell_at.Given as goal

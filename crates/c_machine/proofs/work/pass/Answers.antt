@@ -1,6 +1,6 @@
 use Rattle.std.proofs.Common.{◌∙◌, ◌++◌, ◌∷◌, []}
 use Rattle.c_machine.proofs.Steps.{pass_paren, pass_probe, no_number, after_see}
-use Rattle.c_tree.specs.View.{node_shape}
+use Rattle.first_tree.specs.View.{node_shape}
 use Rattle.c_machine.proofs.Fronts.{grown_same, value_front}
 use Rattle.std.proofs.lemmas.Result.{err_from_is_err_and}
 use Rattle.c_machine.proofs.work.pass.Goals as goal

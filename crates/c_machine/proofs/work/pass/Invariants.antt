@@ -1,6 +1,6 @@
 use Rattle.std.proofs.Common.{◌≡◌, List, ◌++◌}
 use Rattle.atac_base.specs.declared.probes.Event.{Event}
-use Rattle.c_tree.specs.View.{node_shape}
+use Rattle.first_tree.specs.View.{node_shape}
 use Rattle.c_machine.specs.Results.{State}
 use Rattle.c_machine.specs.Meaning.{value}
 use Rattle.c_machine.proofs.work.pass.Given as goal

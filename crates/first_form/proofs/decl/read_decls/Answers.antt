@@ -1,5 +1,5 @@
 use Rattle.std.proofs.Common.{◌≡◌, ◌+◌, ◌≤◌, ◌<◌, [], ◌∷◌, ◌++◌, length, map, arith, subst, sym}
-use Rattle.c_tree.specs.View.{decl_shape}
+use Rattle.first_tree.specs.View.{decl_shape}
 use Rattle.first_form.specs.Look.{Finds}
 use Rattle.first_form.specs.Reader.{reads_decls}
 use Rattle.first_form.specs.Reading.{decls_onto}

@@ -1,5 +1,5 @@
 use Rattle.std.proofs.Common.{◌+◌, ◌≤◌, None, length, map}
-use Rattle.c_tree.specs.View.{decl_shape}
+use Rattle.first_tree.specs.View.{decl_shape}
 use Rattle.first_form.specs.Look.{Got, Finds}
 use Rattle.first_form.specs.Reader.{Declared, reads_decls}
 use Rattle.first_form.specs.Reading.{decls_onto}

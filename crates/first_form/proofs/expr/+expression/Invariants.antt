@@ -1,6 +1,6 @@
 use Rattle.std.proofs.Common.{◌≡◌, ◌+◌, ◌*◌, ◌<◌, ◌≤◌, length}
-use Rattle.c_tree.specs.Shape.{NodeShape}
-use Rattle.c_tree.specs.View.{node_shape}
+use Rattle.first_tree.specs.Shape.{NodeShape}
+use Rattle.first_tree.specs.View.{node_shape}
 use Rattle.first_form.specs.Look.{Got, Finds}
 use Rattle.first_form.specs.Grammar.{height}
 use Rattle.first_form.specs.Reader.{climbs, reads}

@@ -1,6 +1,6 @@
 use Rattle.std.proofs.Common.{◌∙◌, ap}
-use Rattle.c_tree.specs.Shape.{node, call}
-use Rattle.c_tree.specs.View.{note_shape, node_list}
+use Rattle.first_tree.specs.Shape.{node, call}
+use Rattle.first_tree.specs.View.{note_shape, node_list}
 use Rattle.first_form.proofs.Rows.{call_open}
 use Rattle.first_form.proofs.nodes.call_node.Goals as goal
 

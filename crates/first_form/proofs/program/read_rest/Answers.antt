@@ -1,6 +1,6 @@
 use Rattle.std.proofs.Common.{rules, ◌≡◌, [], ◌∷◌, ◌++◌, Some, length, map}
-use Rattle.c_tree.specs.declared.token.Mark.TheVariants as mark
-use Rattle.c_tree.specs.View.{decl_shape, stmt_list, unit_shape}
+use Rattle.first_tree.specs.declared.token.Mark.TheVariants as mark
+use Rattle.first_tree.specs.View.{decl_shape, stmt_list, unit_shape}
 use Rattle.first_form.specs.Look.{after, place}
 use Rattle.first_form.specs.Reading.{probed_main}
 use Rattle.first_form.proofs.UnitSteps.{rest_made}

@@ -1,5 +1,5 @@
 use Rattle.std.proofs.Common.{rules, ◌≡◌, is_some, true}
-use Rattle.c_tree.specs.declared.token.Mark.TheVariants as mark
+use Rattle.first_tree.specs.declared.token.Mark.TheVariants as mark
 use Rattle.first_form.specs.Look.{after}
 use Rattle.first_form.proofs.MadeSteps.{items_made}
 use Rattle.first_form.proofs.stmt.+statement.Goals as goal

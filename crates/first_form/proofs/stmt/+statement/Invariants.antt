@@ -1,7 +1,7 @@
 use Rattle.std.proofs.Common.{◌+◌, ◌*◌, ◌≤◌, List, None, false, length}
 use Rattle.atac_base.specs.declared.place.Pos.{Pos}
-use Rattle.c_tree.specs.declared.token.Token.{Token}
-use Rattle.c_tree.specs.Shape.{StmtShapes}
+use Rattle.first_tree.specs.declared.token.Token.{Token}
+use Rattle.first_tree.specs.Shape.{StmtShapes}
 use Rattle.first_form.specs.Look.{Finds}
 use Rattle.first_form.specs.Reader.{reads_stmts}
 use Rattle.first_form.specs.Made.{MadeAll, stmts_onto}

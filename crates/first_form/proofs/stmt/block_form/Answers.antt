@@ -1,6 +1,6 @@
 use Rattle.std.proofs.Common.{◌∙◌, ap, map}
-use Rattle.c_tree.specs.Shape.{compound, braces}
-use Rattle.c_tree.specs.View.{decl_shape, stmt_list}
+use Rattle.first_tree.specs.Shape.{compound, braces}
+use Rattle.first_tree.specs.View.{decl_shape, stmt_list}
 use Rattle.first_form.proofs.Rows.{compound_open}
 use Rattle.first_form.proofs.stmt.block_form.Goals as goal
 

@@ -1,5 +1,5 @@
 use Rattle.std.proofs.Common.{◌+◌, ◌≤◌, length, [], List, Option, vec_len}
-use Rattle.c_tree.specs.declared.token.Token.{Token}
+use Rattle.first_tree.specs.declared.token.Token.{Token}
 use Rattle.first_tokens.specs.Tokens.{Cuts, begin}
 use Rattle.first_tokens.proofs.tokens.cut.Given as goal
 

@@ -1,5 +1,5 @@
 use Rattle.std.proofs.Common.{◌≡◌, ◌∙◌, ◌*◌, ap, refl, suc, [], arith}
-use Rattle.c_tree.specs.View.{declarator_shape}
+use Rattle.first_tree.specs.View.{declarator_shape}
 use Rattle.c_machine.specs.Results.{Gives, then_do}
 use Rattle.c_machine.specs.Rest.{state_of}
 use Rattle.c_machine.specs.Todo.{all_wait}

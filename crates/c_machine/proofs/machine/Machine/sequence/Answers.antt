@@ -1,5 +1,5 @@
 use Rattle.std.proofs.Common.{◌≡◌, ◌∙◌, ◌∷◌, ap, rules, false, None}
-use Rattle.c_tree.specs.View.{stmt_shape}
+use Rattle.first_tree.specs.View.{stmt_shape}
 use Rattle.c_machine.specs.Results.{Gives, then_do}
 use Rattle.c_machine.specs.Meaning.{loops, flow}
 use Rattle.c_machine.proofs.Moves.{open_seq}

@@ -1,5 +1,5 @@
 use Rattle.std.proofs.Common.{◌∙◌}
-use Rattle.c_tree.specs.View.{node_shape, stmt_shape}
+use Rattle.first_tree.specs.View.{node_shape, stmt_shape}
 use Rattle.c_machine.proofs.Moves.{open_loop}
 use Rattle.c_machine.proofs.machine.Machine.turn_loop.Goals as goal
 

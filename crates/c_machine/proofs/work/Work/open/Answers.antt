@@ -2,7 +2,7 @@ use Rattle.std.proofs.Common.{◌∙◌, ap}
 use Rattle.c_machine.specs.Results.{Gives, then_do}
 use Rattle.c_machine.specs.Rest.{state_of, frames}
 use Rattle.c_machine.proofs.Steps.{stops_then}
-use Rattle.c_tree.specs.View.{node_shape}
+use Rattle.first_tree.specs.View.{node_shape}
 use Rattle.c_machine.proofs.Fronts.{front_then, frames_front, value_front, grown_same}
 use Rattle.std.proofs.lemmas.Result.{err_from_is_err_and}
 use Rattle.c_machine.proofs.work.Work.open.Goals as goal

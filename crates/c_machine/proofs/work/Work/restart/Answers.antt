@@ -1,5 +1,5 @@
 use Rattle.std.proofs.Common.{◌∙◌, ap}
-use Rattle.c_tree.specs.View.{node_shape}
+use Rattle.first_tree.specs.View.{node_shape}
 use Rattle.c_machine.specs.Results.{Gives, then_do}
 use Rattle.c_machine.specs.Meaning.{value}
 use Rattle.c_machine.specs.Rest.{frames}

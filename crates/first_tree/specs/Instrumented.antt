@@ -3,9 +3,9 @@ use Rattle.std.specs.Prelude.{ℕ, ◌+◌, Bool, true, false, List, [], ◌∷�
 use Rattle.std.specs.Fmt.{decimal}
 use Rattle.atac_base.specs.declared.place.Pos.{Pos}
 use Rattle.atac_base.specs.declared.place.IntKind.TheVariants as kind
-use Rattle.c_tree.specs.declared.tree.ProbeMark.{ProbeMark}
-use Rattle.c_tree.specs.Shape.{int, typed, block, NodeShape, node, probe, StmtShape, stmt, FormShape, compound, plain, when, while, return, CompoundShape, braces, StmtShapes, no_stmts, more_stmts, ExternalShape, function, UnitShape}
-use Rattle.c_tree.specs.Blocks.{place_of, place_of_braces, parts, blocks_of, blocks_of_external}
+use Rattle.first_tree.specs.declared.tree.ProbeMark.{ProbeMark}
+use Rattle.first_tree.specs.Shape.{int, typed, block, NodeShape, node, probe, StmtShape, stmt, FormShape, compound, plain, when, while, return, CompoundShape, braces, StmtShapes, no_stmts, more_stmts, ExternalShape, function, UnitShape}
+use Rattle.first_tree.specs.Blocks.{place_of, place_of_braces, parts, blocks_of, blocks_of_external}
 
 abbrev pub mark_at : ℕ → Pos → ProbeMark
 mark_at k p = record { pos = p; number = decimal k }

@@ -1,5 +1,5 @@
 ghost use Rattle.std.specs.Prelude.{◌≡◌};
-ghost use Rattle.c_tree.specs.View.{unit_shape, program_shape};
+ghost use Rattle.first_tree.specs.View.{unit_shape, program_shape};
 
 use crate::tree::Unit;
 

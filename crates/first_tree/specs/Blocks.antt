@@ -3,7 +3,7 @@
 -- a compound, an `if`, a loop or a `return`. Blocks are numbered from 1 in this order.
 use Rattle.std.specs.Prelude.{Bool, true, false, List, [], ◌∷◌, ◌++◌}
 use Rattle.atac_base.specs.declared.place.Pos.{Pos}
-use Rattle.c_tree.specs.Shape.{NodeShape, node, StmtShape, stmt, FormShape, compound, plain, when, while, return, CompoundShape, braces, StmtShapes, no_stmts, more_stmts, ExternalShape, function, UnitShape}
+use Rattle.first_tree.specs.Shape.{NodeShape, node, StmtShape, stmt, FormShape, compound, plain, when, while, return, CompoundShape, braces, StmtShapes, no_stmts, more_stmts, ExternalShape, function, UnitShape}
 
 abbrev pub place_of : NodeShape → Pos
 place_of (node p o n f) = p

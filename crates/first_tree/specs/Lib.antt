@@ -1,0 +1,4 @@
+pub mod Shape
+pub mod View
+pub mod Blocks
+pub mod Instrumented
