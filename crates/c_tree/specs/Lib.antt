@@ -3,3 +3,7 @@ pub mod View
 pub mod Forms
 pub mod Grammar
 pub mod Levels
+pub mod Shaped
+pub mod Options
+pub mod Start
+pub mod Fronts

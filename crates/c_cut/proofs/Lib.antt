@@ -1,0 +1,10 @@
+pub mod Values
+pub mod Steps
+pub mod Runs
+pub mod Longest
+pub mod Quoted
+pub mod ReadBack
+pub mod Spelled
+pub mod Whole
+pub mod Maximal
+pub mod Itself

@@ -1,0 +1,11 @@
+//! The piece that stands at the front of a text, and the token that it spells (C89, 3.1).
+#![tactic(auto)]
+
+pub mod bytes;
+pub mod front;
+pub mod kinds;
+pub mod marks;
+pub mod numbers;
+pub mod quotes;
+#[cfg(test)]
+mod tests;

@@ -1,0 +1,10 @@
+pub mod Joining
+pub mod Levels
+pub mod Lines
+pub mod Marks
+pub mod Pieces
+pub mod ReadBack
+pub mod Scanning
+pub mod Soundness
+pub mod Spent
+pub mod Tables

@@ -1,0 +1,15 @@
+pub mod Directive
+pub mod Expand
+pub mod Given
+pub mod Joined
+pub mod Line
+pub mod Macros
+pub mod Obeyed
+pub mod Output
+pub mod Pieces
+pub mod Places
+pub mod ReadBack
+pub mod Replacing
+pub mod Scan
+pub mod Scanner
+pub mod Written
