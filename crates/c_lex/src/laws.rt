@@ -11,7 +11,7 @@ ghost use Rattle.c_lex.specs.Pieces.{pieces};
 ghost use Rattle.c_lex.specs.Written.{written};
 ghost use Rattle.c_lex.specs.ReadBack.{AreReadable, kinds_of};
 
-/// The pieces of a text join to it.
+/// The pieces of a text, which are blanks, comments, directives, tokens and what is refused, join to it.
 pub fn pieces_join()
     ensures { (kind : TextKind) (text : List ℕ) → flat_map (λ p. p) (pieces kind text) ≡ text }
 {}

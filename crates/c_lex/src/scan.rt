@@ -18,7 +18,7 @@ use atac_base::place::{NoMemory, Pos};
 use c_cut::front::{Class, Front};
 use std::alloc::Global;
 
-/// Why a text has no tokens: the first refusal, with its place.
+/// Why a text has no tokens: its first refusal, by a number from 1 to 9, with the place; or memory was wanted.
 #[derive(Clone, Copy, Debug, PartialEq, Eq)]
 pub enum LexRefusal {
     At(u8, Pos),

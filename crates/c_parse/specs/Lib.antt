@@ -1,0 +1,7 @@
+pub mod Look
+pub mod Reader
+pub mod StmtReader
+pub mod CodeView
+pub mod Leads
+pub mod Parts
+pub mod StmtParts
