@@ -17,3 +17,4 @@ pub mod StmtComplete
 pub mod StmtSound
 pub mod StmtSteps
 pub mod UnitWhole
+pub mod StmtLabels

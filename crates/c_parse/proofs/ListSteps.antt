@@ -370,8 +370,8 @@ one_item_more l' l a same = ap length same ∙ length-append l (a ∷ [])
 pub nodes_now : (l' l : List Node) (a : Node) (h k : ℕ) → h ≡ nodes_height (node_list l) → k ≡ height (node_shape a) → l' ≡ l ++ a ∷ [] → max h k ≡ nodes_height (node_list l')
 nodes_now l' l a h k p q same = omega (arith, p, q, nodes_higher l a, ap (λ z. nodes_height (node_list z)) same)
 
-pub chains_now : (l' l : List Node) (a : Node) → nodes_chain (node_list l) ≤ 4 → chain (node_shape a) ≤ 4 → l' ≡ l ++ a ∷ [] → nodes_chain (node_list l') ≤ 4
-chains_now l' l a p q same = omega (arith, p, q, chains_longer l a, ap (λ z. nodes_chain (node_list z)) same)
+pub chains_now : (l' l : List Node) (a : Node) (h k : ℕ) → h ≡ nodes_chain (node_list l) → k ≡ chain (node_shape a) → l' ≡ l ++ a ∷ [] → max h k ≡ nodes_chain (node_list l')
+chains_now l' l a h k p q same = omega (arith, p, q, chains_longer l a, ap (λ z. nodes_chain (node_list z)) same)
 
 pub lengths_now : (l' l : List (Option Node)) (a : Option Node) (h k n : ℕ) → h ≡ lengths_height (lengths_list l) → k ≡ maybe_height (maybe_node a) → n ≡ length l → l' ≡ l ++ a ∷ [] → max h (n + 1 + k) ≡ lengths_height (lengths_list l')
 lengths_now l' l a h k n p q r same = omega (arith, p, q, r, lengths_higher l a, ap (λ z. lengths_height (lengths_list z)) same)

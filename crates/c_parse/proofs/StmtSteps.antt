@@ -21,6 +21,7 @@ use Rattle.c_tree.specs.View.{label_shape, stmt_shape, item_list, external_shape
 use Rattle.c_parse.specs.Look.{Got, got, then_go, go_after, either_way, if_so, Finds, after, after_head, after_key, after_key_head, after_probe, wanted, expect, a_string}
 use Rattle.c_parse.specs.Reader.{numbered, one_got, reads, reads_decls, reads_declarator, reads_some}
 use Rattle.c_parse.specs.Parts.{closed, declaring}
+use Rattle.c_parse.specs.Leads.{Leads}
 use Rattle.c_parse.specs.StmtParts.{mark_cons, label_cons, item_cons, ReadExternals}
 use Rattle.c_parse.specs.StmtReader.{colon_behind, mark_closed, mark_ahead, mark_onto, marks_from, reads_marks, compound_got, either_made, if_then, if_from, while_made, while_from, do_end, do_from, for_made, for_third, for_second, for_first, switch_made, switch_from, return_got, simply_got, stmt_made, stmt_body, label_onto, case_more, reads_labels, depth_behind, item_onto, item_more, item_stmt, compound_end, compound_items, reads_stmt, reads_items, reads_compound, inside, reads_form, is_function, body_ahead, defined_got, declared_got, external_body, external_first, external_specs, reads_external, external_onto, external_more, reads_externals, line_end, line_closed, line_from, line_got, reads_line}
 use Rattle.c_parse.proofs.Looking.{after_is, after_key_is, find_from, same_answer}
@@ -483,38 +484,38 @@ label_builds : Builds label_cons [] (map label_shape)
 label_builds = record { empty = refl; more = λ a l. refl }
 
 pub label_list_start : (d : ℕ) (ts : List Token) → LabelsFrom d [] ts ts
-label_list_start d ts = record { on = λ z p. p }
+label_list_start d ts = record { read = record { on = λ z p. p } }
 
-at_case_more : (d : ℕ) (l : List Label) (a : Label) (n : NodeShape) (ts rest r x y : List Token) → LabelsFrom d l ts rest → after_key keys.Case rest ≡ Some r → Finds (reads 2 (suc d) 0) r (Some (n, x)) → after marks.Colon x ≡ Some y → label_shape a ≡ case (place rest) n → LabelsFrom d (l ++ a ∷ []) ts y
+at_case_more : (d : ℕ) (l : List Label) (a : Label) (n : NodeShape) (ts rest r x y : List Token) → Leads label_cons (reads_labels d) (reads_labels d) l ts rest → after_key keys.Case rest ≡ Some r → Finds (reads 2 (suc d) 0) r (Some (n, x)) → after marks.Colon x ≡ Some y → label_shape a ≡ case (place rest) n → Leads label_cons (reads_labels d) (reads_labels d) (l ++ a ∷ []) ts y
 at_case_more d l a n ts rest r x y p e q c same =
     leads_more label_cons (reads_labels d) (reads_labels d) (reads_labels d) l a ts rest y p (λ z h.
     subst (λ s. Finds (reads_labels d) rest (then_go z (label_onto s))) (sym same) (labels_case d n rest r x y z e q c h))
 
 pub label_list_more_case : (l' : List Label) (d : ℕ) (l : List Label) (a : Label) (n : NodeShape) (ts rest r x y : List Token) → LabelsFrom d l ts rest → after_key keys.Case rest ≡ Some r → Finds (reads 2 (suc d) 0) r (Some (n, x)) → after marks.Colon x ≡ Some y → label_shape a ≡ case (place rest) n → l' ≡ l ++ a ∷ [] → LabelsFrom d l' ts y
-label_list_more_case l' d l a n ts rest r x y p e q c same h = subst (λ l'. LabelsFrom d l' ts y) (sym h) (at_case_more d l a n ts rest r x y p e q c same)
+label_list_more_case l' d l a n ts rest r x y p e q c same h = subst (λ l'. LabelsFrom d l' ts y) (sym h) (record { read = at_case_more d l a n ts rest r x y p.read e q c same })
 
-at_default_more : (d : ℕ) (l : List Label) (a : Label) (ts rest r x : List Token) → LabelsFrom d l ts rest → after_key keys.Default rest ≡ Some r → after marks.Colon r ≡ Some x → label_shape a ≡ default (place rest) → LabelsFrom d (l ++ a ∷ []) ts x
+at_default_more : (d : ℕ) (l : List Label) (a : Label) (ts rest r x : List Token) → Leads label_cons (reads_labels d) (reads_labels d) l ts rest → after_key keys.Default rest ≡ Some r → after marks.Colon r ≡ Some x → label_shape a ≡ default (place rest) → Leads label_cons (reads_labels d) (reads_labels d) (l ++ a ∷ []) ts x
 at_default_more d l a ts rest r x p e c same =
     leads_more label_cons (reads_labels d) (reads_labels d) (reads_labels d) l a ts rest x p (λ z h.
     subst (λ s. Finds (reads_labels d) rest (then_go z (label_onto s))) (sym same) (labels_default d rest r x z e c h))
 
 pub label_list_more_default : (l' : List Label) (d : ℕ) (l : List Label) (a : Label) (ts rest r x : List Token) → LabelsFrom d l ts rest → after_key keys.Default rest ≡ Some r → after marks.Colon r ≡ Some x → label_shape a ≡ default (place rest) → l' ≡ l ++ a ∷ [] → LabelsFrom d l' ts x
-label_list_more_default l' d l a ts rest r x p e c same h = subst (λ l'. LabelsFrom d l' ts x) (sym h) (at_default_more d l a ts rest r x p e c same)
+label_list_more_default l' d l a ts rest r x p e c same h = subst (λ l'. LabelsFrom d l' ts x) (sym h) (record { read = at_default_more d l a ts rest r x p.read e c same })
 
 pub label_list_done : (d : ℕ) (l : List Label) (ts rest : List Token) → LabelsFrom d l ts rest → after_key keys.Case rest ≡ None → after_key keys.Default rest ≡ None → Finds (reads_labels d) ts (Some (map label_shape l, rest))
-label_list_done d l ts rest p e c = leads_end label_cons [] (map label_shape) label_builds (reads_labels d) (reads_labels d) l ts rest rest p (labels_stop d rest e c)
+label_list_done d l ts rest p e c = leads_end label_cons [] (map label_shape) label_builds (reads_labels d) (reads_labels d) l ts rest rest p.read (labels_stop d rest e c)
 
 pub label_list_case_failed : (d : ℕ) (l : List Label) (ts rest r : List Token) → LabelsFrom d l ts rest → after_key keys.Case rest ≡ Some r → Finds (reads 2 (suc d) 0) r None → Finds (reads_labels d) ts None
-label_list_case_failed d l ts rest r p e q = leads_fail label_cons (reads_labels d) (reads_labels d) l ts rest p (labels_case_fails d rest r e q)
+label_list_case_failed d l ts rest r p e q = leads_fail label_cons (reads_labels d) (reads_labels d) l ts rest p.read (labels_case_fails d rest r e q)
 
 pub label_list_case_deep : (d : ℕ) (l : List Label) (ts rest r : List Token) → LabelsFrom d l ts rest → after_key keys.Case rest ≡ Some r → 400 ≤ d → Finds (reads_labels d) ts None
-label_list_case_deep d l ts rest r p e high = leads_fail label_cons (reads_labels d) (reads_labels d) l ts rest p (labels_case_deep d rest r e high)
+label_list_case_deep d l ts rest r p e high = leads_fail label_cons (reads_labels d) (reads_labels d) l ts rest p.read (labels_case_deep d rest r e high)
 
 pub label_list_case_open : (d : ℕ) (l : List Label) (a : NodeShape) (ts rest r x : List Token) → LabelsFrom d l ts rest → after_key keys.Case rest ≡ Some r → Finds (reads 2 (suc d) 0) r (Some (a, x)) → after marks.Colon x ≡ None → Finds (reads_labels d) ts None
-label_list_case_open d l a ts rest r x p e q c = leads_fail label_cons (reads_labels d) (reads_labels d) l ts rest p (labels_case_open d a rest r x e q c)
+label_list_case_open d l a ts rest r x p e q c = leads_fail label_cons (reads_labels d) (reads_labels d) l ts rest p.read (labels_case_open d a rest r x e q c)
 
 pub label_list_default_open : (d : ℕ) (l : List Label) (ts rest r : List Token) → LabelsFrom d l ts rest → after_key keys.Default rest ≡ Some r → after marks.Colon r ≡ None → Finds (reads_labels d) ts None
-label_list_default_open d l ts rest r p e c = leads_fail label_cons (reads_labels d) (reads_labels d) l ts rest p (labels_default_open d rest r e c)
+label_list_default_open d l ts rest r p e c = leads_fail label_cons (reads_labels d) (reads_labels d) l ts rest p.read (labels_default_open d rest r e c)
 
 -- ITEMS
 
@@ -549,24 +550,24 @@ item_builds : Builds item_cons no_items item_list
 item_builds = record { empty = refl; more = λ a l. refl }
 
 pub item_list_start : (d : ℕ) (ts : List Token) → ItemsFrom d [] ts ts
-item_list_start d ts = record { on = λ z p. p }
+item_list_start d ts = record { read = record { on = λ z p. p } }
 
-at_item_more : (d : ℕ) (l : List Item) (a : Item) (ts rest x y : List Token) → ItemsFrom d l ts rest → after marks.RightBrace rest ≡ None → Finds (reads_labels d) rest (Some (map label_shape a.labels.items, x)) → Finds (reads_stmt (depth_behind d (map label_shape a.labels.items))) x (Some (stmt_shape a.stmt, y)) → ItemsFrom d (l ++ a ∷ []) ts y
+at_item_more : (d : ℕ) (l : List Item) (a : Item) (ts rest x y : List Token) → Leads item_cons (reads_items d) (reads_items d) l ts rest → after marks.RightBrace rest ≡ None → Finds (reads_labels d) rest (Some (map label_shape a.labels.items, x)) → Finds (reads_stmt (depth_behind d (map label_shape a.labels.items))) x (Some (stmt_shape a.stmt, y)) → Leads item_cons (reads_items d) (reads_items d) (l ++ a ∷ []) ts y
 at_item_more d l a ts rest x y p e q w =
     leads_more item_cons (reads_items d) (reads_items d) (reads_items d) l a ts rest y p (λ z h. items_on d (map label_shape a.labels.items) (stmt_shape a.stmt) rest x y z e q w h)
 
 -- the statement of an item has e levels above it
 pub item_list_more : (l' : List Item) (d e : ℕ) (l : List Item) (a : Item) (ts rest x y : List Token) → ItemsFrom d l ts rest → after marks.RightBrace rest ≡ None → Finds (reads_labels d) rest (Some (map label_shape a.labels.items, x)) → e ≡ depth_behind d (map label_shape a.labels.items) → Finds (reads_stmt e) x (Some (stmt_shape a.stmt, y)) → l' ≡ l ++ a ∷ [] → ItemsFrom d l' ts y
-item_list_more l' d e l a ts rest x y p n q deep w same = subst (λ l'. ItemsFrom d l' ts y) (sym same) (at_item_more d l a ts rest x y p n q (subst (λ e. Finds (reads_stmt e) x (Some (stmt_shape a.stmt, y))) deep w))
+item_list_more l' d e l a ts rest x y p n q deep w same = subst (λ l'. ItemsFrom d l' ts y) (sym same) (record { read = at_item_more d l a ts rest x y p.read n q (subst (λ e. Finds (reads_stmt e) x (Some (stmt_shape a.stmt, y))) deep w) })
 
 pub item_list_done : (d : ℕ) (l : List Item) (ts rest r : List Token) → ItemsFrom d l ts rest → after marks.RightBrace rest ≡ Some r → Finds (reads_items d) ts (Some (item_list l, rest))
-item_list_done d l ts rest r p e = leads_end item_cons no_items item_list item_builds (reads_items d) (reads_items d) l ts rest rest p (items_end d rest r e)
+item_list_done d l ts rest r p e = leads_end item_cons no_items item_list item_builds (reads_items d) (reads_items d) l ts rest rest p.read (items_end d rest r e)
 
 pub item_list_labels_failed : (d : ℕ) (l : List Item) (ts rest : List Token) → ItemsFrom d l ts rest → after marks.RightBrace rest ≡ None → Finds (reads_labels d) rest None → Finds (reads_items d) ts None
-item_list_labels_failed d l ts rest p e q = leads_fail item_cons (reads_items d) (reads_items d) l ts rest p (items_labels_fail d rest e q)
+item_list_labels_failed d l ts rest p e q = leads_fail item_cons (reads_items d) (reads_items d) l ts rest p.read (items_labels_fail d rest e q)
 
 pub item_list_failed : (d e : ℕ) (l : List Item) (ls : List LabelShape) (ts rest x : List Token) → ItemsFrom d l ts rest → after marks.RightBrace rest ≡ None → Finds (reads_labels d) rest (Some (ls, x)) → e ≡ depth_behind d ls → Finds (reads_stmt e) x None → Finds (reads_items d) ts None
-item_list_failed d e l ls ts rest x p n q deep w = leads_fail item_cons (reads_items d) (reads_items d) l ts rest p (items_stmt_fail d ls rest x n q (subst (λ e. Finds (reads_stmt e) x None) deep w))
+item_list_failed d e l ls ts rest x p n q deep w = leads_fail item_cons (reads_items d) (reads_items d) l ts rest p.read (items_stmt_fail d ls rest x n q (subst (λ e. Finds (reads_stmt e) x None) deep w))
 
 pub item_list_deep : (d e : ℕ) (l : List Item) (ls : List LabelShape) (ts rest x : List Token) → ItemsFrom d l ts rest → after marks.RightBrace rest ≡ None → Finds (reads_labels d) rest (Some (ls, x)) → e ≡ depth_behind d ls → 400 ≤ e → Finds (reads_items d) ts None
 item_list_deep d e l ls ts rest x p n q deep high = item_list_failed d e l ls ts rest x p n q deep (stmt_deep e x high)

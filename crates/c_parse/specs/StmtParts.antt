@@ -1,8 +1,9 @@
 -- What the parts of the code read of statements and units, in the words of the reader.
-use Rattle.std.specs.Prelude.{◌≡◌, ◌≢◌, ◌⊎◌, ℕ, suc, ◌≤◌, List, [], ◌∷◌, map, length}
+use Rattle.std.specs.Prelude.{◌≡◌, ◌≢◌, ◌⊎◌, ℕ, suc, ◌≤◌, List, [], ◌∷◌, map, length, Bool, ◌||◌, is_some}
 use Rattle.atac_base.specs.declared.place.Pos.{Pos}
 use Rattle.c_tree.specs.declared.token.Mark.{Mark}
 use Rattle.c_tree.specs.declared.token.Mark.TheVariants as marks
+use Rattle.c_tree.specs.declared.token.Key.TheVariants as keys
 use Rattle.c_tree.specs.declared.token.Token.{Token}
 use Rattle.c_tree.specs.declared.tree.ProbeMark.{ProbeMark}
 use Rattle.c_tree.specs.declared.tree.Label.{Label}
@@ -12,9 +13,9 @@ use Rattle.c_tree.specs.declared.tree.ProgramLine.{ProgramLine}
 use Rattle.c_tree.specs.Forms.{Then, Written, place}
 use Rattle.c_tree.specs.Grammar.{line_form, unit_form, Placed}
 use Rattle.c_tree.specs.Shaped.{ShapedUnit}
-use Rattle.c_tree.specs.Shape.{NodeShape, MaybeNode, SpecShapes, DeclaratorShape, LabelShape, FormShape, ItemShapes, more_items, ExternalShape, UnitShape}
+use Rattle.c_tree.specs.Shape.{NodeShape, MaybeNode, SpecShapes, DeclaratorShape, LabelShape, case, default, FormShape, ItemShapes, more_items, ExternalShape, UnitShape}
 use Rattle.c_tree.specs.View.{label_shape, stmt_shape, external_shape}
-use Rattle.c_parse.specs.Look.{Got, got, then_go, Finds}
+use Rattle.c_parse.specs.Look.{Got, got, then_go, go_after, either_way, Finds, after_key, expect}
 use Rattle.c_parse.specs.Reader.{reads}
 use Rattle.c_parse.specs.StmtReader.{in_parens, maybe_before, compound_got, if_from, while_from, do_from, for_from, switch_from, return_got, simply_got, reads_marks, reads_labels, reads_stmt, reads_items, reads_compound, inside, external_specs, external_first, external_body, reads_external}
 use Rattle.c_parse.specs.Leads.{Leads}
@@ -55,6 +56,19 @@ simple_parts d k l = then_go (optional marks.Semicolon (suc d) k l) simply_got
 abbrev pub compound_parts : ℕ → Pos → ℕ → List Token → Got FormShape
 compound_parts d p k l = then_go (reads_compound (suc d) p k l) compound_got
 
+-- LABELS
+
+-- a label begins here
+abbrev pub label_there : List Token → Bool
+label_there ts = is_some (after_key keys.Case ts) || is_some (after_key keys.Default ts)
+
+abbrev pub case_got : Pos → NodeShape → List Token → Got LabelShape
+case_got p e ts = expect marks.Colon (case p e) ts
+
+-- one label of an item that has d levels above it
+abbrev pub one_label : ℕ → ℕ → List Token → Got LabelShape
+one_label d k ts = either_way (after_key keys.Case ts) (λ r. then_go (reads 2 (suc d) 0 k r) (case_got (place ts))) (go_after (after_key keys.Default ts) (expect marks.Colon (default (place ts))))
+
 -- EXTERNAL DECLARATIONS that begin at p
 
 -- behind the specifiers
@@ -83,11 +97,11 @@ item_cons i s = more_items (map label_shape i.labels.items) (stmt_shape i.stmt) 
 abbrev pub MarksFrom : List ProbeMark → List Token → List Token → Type 0
 MarksFrom l ts rest = Leads mark_cons reads_marks reads_marks l ts rest
 
-abbrev pub LabelsFrom : ℕ → List Label → List Token → List Token → Type 0
-LabelsFrom d l ts rest = Leads label_cons (reads_labels d) (reads_labels d) l ts rest
+pub record LabelsFrom (d : ℕ) (l : List Label) (ts rest : List Token) : Type 0 where
+  pub read : Leads label_cons (reads_labels d) (reads_labels d) l ts rest
 
-abbrev pub ItemsFrom : ℕ → List Item → List Token → List Token → Type 0
-ItemsFrom d l ts rest = Leads item_cons (reads_items d) (reads_items d) l ts rest
+pub record ItemsFrom (d : ℕ) (l : List Item) (ts rest : List Token) : Type 0 where
+  pub read : Leads item_cons (reads_items d) (reads_items d) l ts rest
 
 -- these external declarations were read one behind the other, from ts up to rest
 abbrev pub ReadExternals : List ExternalShape → List Token → List Token → Type 0
