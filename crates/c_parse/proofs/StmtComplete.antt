@@ -13,18 +13,18 @@ use Rattle.c_tree.specs.Shape.{NodeShape, MaybeNode, no_node, one_node, DeclShap
 use Rattle.c_tree.specs.Grammar.{node_form, maybe_node_form, marks_form, labels_form, stmt_form, body_form, compound_form, items_form, external_form}
 use Rattle.c_tree.specs.Levels.{height, maybe_height, labels_height, item_height, stmt_height, form_height, compound_height, items_height, external_height}
 use Rattle.c_tree.specs.Shaped.{in_names, Shaped, ShapedMaybe, ShapedLabels, ShapedStmt, ShapedForm, ShapedCompound, ShapedItems, ShapedExternal}
-use Rattle.c_parse.specs.Look.{got, then_go, go_after, Finds, after, after_head, after_key, after_key_head, after_probe, after_probe_head, no_sign, sign_head, no_start, start_mark, no_spec, spec_of_head, spec_head}
-use Rattle.c_parse.specs.Reader.{numbered}
+use Rattle.c_phrase.specs.Look.{got, then_go, go_after, Finds, after, after_head, after_key, after_key_head, after_probe, after_probe_head, no_sign, sign_head, no_start, start_mark, no_spec, spec_of_head, spec_head}
+use Rattle.c_phrase.specs.Reader.{numbered}
 use Rattle.c_parse.specs.StmtReader.{mark_closed, mark_ahead, reads_marks, reads_labels, depth_behind, reads_stmt, reads_items, reads_compound, reads_form, is_function, body_ahead, reads_external}
 use Rattle.c_parse.specs.StmtParts.{parens, optional}
-use Rattle.c_parse.proofs.Looking.{after_of, after_key_of, after_probe_of}
-use Rattle.c_parse.proofs.DeclSteps.{declaring_found}
+use Rattle.c_phrase.proofs.Looking.{after_of, after_key_of, after_probe_of}
+use Rattle.c_phrase.proofs.DeclSteps.{declaring_found}
 use Rattle.c_parse.proofs.StmtSteps.{mark_found, marks_stop, marks_on, parens_found, optional_none, optional_found, if_plain, if_else, while_found, do_found, for_found, switch_found, return_found, simple_found, compound_form_found, form_compound, form_if, form_while, form_do, form_for, form_switch, form_return, form_break, form_continue, form_simple, stmt_found, labels_stop, labels_case, labels_default, items_end, items_on, compound_found, external_found, external_plain, external_named, external_defined, external_declared, function_found}
 use Rattle.c_parse.proofs.StmtSound.{Ends, EndsForm, any_ends, closed_ends}
-use Rattle.c_parse.proofs.CompleteExpr.{numbered_of}
-use Rattle.c_parse.proofs.CompleteNames as names
-use Rattle.c_parse.proofs.CompleteNames.{ends_brace, ends_block, led_declarators_end, ends_semicolon}
-use Rattle.c_parse.proofs.Complete.{complete_before, complete_declarations, complete_some, complete_first, complete_further}
+use Rattle.c_phrase.proofs.CompleteExpr.{numbered_of}
+use Rattle.c_phrase.proofs.CompleteNames as names
+use Rattle.c_phrase.proofs.CompleteNames.{ends_brace, ends_block, led_declarators_end, ends_semicolon}
+use Rattle.c_phrase.proofs.Complete.{complete_before, complete_declarations, complete_some, complete_first, complete_further}
 use Rattle.c_parse.proofs.CompleteAhead.{node_not_mark, node_ahead, declarator_ahead, function_there, no_body}
 
 -- WHAT STATEMENTS BEGIN WITH

@@ -1,5 +1,5 @@
 -- Labels one by one, as the code reads them.
-use Rattle.std.proofs.Common.{◌≡◌, ℕ, suc, ◌+◌, ◌≤◌, List, [], ◌∷◌, ◌++◌, Option, Some, None, Bool, true, false, refl, sym, ap, ◌∙◌, subst, arith}
+use Rattle.std.proofs.Common.{◌≡◌, ℕ, suc, ◌+◌, ◌≤◌, List, [], ◌∷◌, ◌++◌, Option, Some, None, true, false, refl, sym, ap, ◌∙◌, subst, arith}
 use Rattle.std.specs.Prelude.{◌||◌, is_some, map}
 use Rattle.atac_base.specs.declared.place.Pos.{Pos}
 use Rattle.c_tree.specs.declared.token.Mark.TheVariants as marks
@@ -9,13 +9,13 @@ use Rattle.c_tree.specs.declared.tree.Label.{Label}
 use Rattle.c_tree.specs.Forms.{Head, place}
 use Rattle.c_tree.specs.Shape.{NodeShape, LabelShape, case, default}
 use Rattle.c_tree.specs.View.{label_shape}
-use Rattle.c_parse.specs.Look.{Got, got, then_go, go_after, either_way, Finds, after, after_key, after_key_head, wanted, expect}
-use Rattle.c_parse.specs.Reader.{reads}
+use Rattle.c_phrase.specs.Look.{Got, got, then_go, go_after, either_way, Finds, after, after_key, after_key_head, wanted, expect}
+use Rattle.c_phrase.specs.Reader.{reads}
 use Rattle.c_parse.specs.StmtReader.{label_onto, case_more, reads_labels}
 use Rattle.c_parse.specs.StmtParts.{label_there, case_got, one_label, label_cons, LabelsFrom}
-use Rattle.c_parse.proofs.Looking.{after_key_is, find_from}
-use Rattle.c_parse.proofs.Leading.{leads_more, leads_fail}
-use Rattle.c_parse.proofs.ExprSteps.{read_deep}
+use Rattle.c_phrase.proofs.Looking.{after_key_is, find_from}
+use Rattle.c_phrase.proofs.Leading.{leads_more, leads_fail}
+use Rattle.c_phrase.proofs.ExprSteps.{read_deep}
 use Rattle.c_parse.proofs.StmtSteps.{label_list_done}
 
 -- ONE LABEL

@@ -18,15 +18,15 @@ use Rattle.c_tree.specs.Forms.{Head, place}
 use Rattle.c_tree.specs.Shape.{NodeShape, MaybeNode, no_node, one_node, SpecShapes, DeclShape, decl, DeclShapes, DeclaratorShape, no_declarators, LabelShape, case, default, StmtShape, stmt, FormShape, compound, simply, when, either, while, do_while, for, switch, break, continue, return, CompoundShape, braces, ItemShapes, no_items, ExternalShape, defined, declared}
 use Rattle.c_tree.specs.Shaped.{in_names}
 use Rattle.c_tree.specs.View.{label_shape, stmt_shape, item_list, external_shape}
-use Rattle.c_parse.specs.Look.{Got, got, then_go, go_after, either_way, if_so, Finds, after, after_head, after_key, after_key_head, after_probe, wanted, expect, a_string}
-use Rattle.c_parse.specs.Reader.{numbered, one_got, reads, reads_decls, reads_declarator, reads_some}
-use Rattle.c_parse.specs.Parts.{closed, declaring}
-use Rattle.c_parse.specs.Leads.{Leads}
+use Rattle.c_phrase.specs.Look.{Got, got, then_go, go_after, either_way, if_so, Finds, after, after_head, after_key, after_key_head, after_probe, wanted, expect, a_string}
+use Rattle.c_phrase.specs.Reader.{numbered, one_got, reads, reads_decls, reads_declarator, reads_some}
+use Rattle.c_phrase.specs.Parts.{closed, declaring}
+use Rattle.c_phrase.specs.Leads.{Leads}
 use Rattle.c_parse.specs.StmtParts.{mark_cons, label_cons, item_cons, ReadExternals}
 use Rattle.c_parse.specs.StmtReader.{colon_behind, mark_closed, mark_ahead, mark_onto, marks_from, reads_marks, compound_got, either_made, if_then, if_from, while_made, while_from, do_end, do_from, for_made, for_third, for_second, for_first, switch_made, switch_from, return_got, simply_got, stmt_made, stmt_body, label_onto, case_more, reads_labels, depth_behind, item_onto, item_more, item_stmt, compound_end, compound_items, reads_stmt, reads_items, reads_compound, inside, reads_form, is_function, body_ahead, defined_got, declared_got, external_body, external_first, external_specs, reads_external, external_onto, external_more, reads_externals, line_end, line_closed, line_from, line_got, reads_line}
-use Rattle.c_parse.proofs.Looking.{after_is, after_key_is, find_from, same_answer}
-use Rattle.c_parse.proofs.Leading.{Builds, leads_more, leads_end, leads_fail}
-use Rattle.c_parse.proofs.ExprSteps.{low_go, high_none, then_found, then_fails, closed_found, closed_fails, closed_open, read_deep}
+use Rattle.c_phrase.proofs.Looking.{after_is, after_key_is, find_from, same_answer}
+use Rattle.c_phrase.proofs.Leading.{Builds, leads_more, leads_end, leads_fail}
+use Rattle.c_phrase.proofs.ExprSteps.{low_go, high_none, then_found, then_fails, closed_found, closed_fails, closed_open, read_deep}
 
 -- BLOCK PROBES
 

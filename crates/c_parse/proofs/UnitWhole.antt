@@ -16,12 +16,12 @@ use Rattle.c_tree.specs.Grammar.{line_form, maybe_line_form, external_form, exte
 use Rattle.c_tree.specs.Levels.{external_height, externals_height}
 use Rattle.c_tree.specs.Shaped.{ShapedExternal, ShapedExternals, ShapedUnit}
 use Rattle.c_tree.specs.View.{external_shape}
-use Rattle.c_parse.specs.Look.{got, then_go, either_way, Finds, after, after_probe, string_head, a_string, is_spec, spec_of_head, spec_head}
+use Rattle.c_phrase.specs.Look.{got, then_go, either_way, Finds, after, after_probe, string_head, a_string, is_spec, spec_of_head, spec_head}
 use Rattle.c_parse.specs.StmtReader.{line_end, line_closed, line_from, line_got, reads_line, external_onto, external_more, reads_external, reads_externals, unit_at}
 use Rattle.c_parse.specs.StmtParts.{ReadExternals, ExternalsFrom, Front, BehindLongest, SyntaxAt, NoUnit}
-use Rattle.c_parse.proofs.Looking.{got_eq, not_got, went, opened, same_answer, after_is, after_of, after_probe_is, after_probe_of, expect_is, string_is}
-use Rattle.c_parse.proofs.ExprSound.{moved}
-use Rattle.c_parse.proofs.CompleteDecl.{specs_begin}
+use Rattle.c_phrase.proofs.Looking.{got_eq, not_got, went, opened, same_answer, after_is, after_of, after_probe_is, after_probe_of, expect_is, string_is}
+use Rattle.c_phrase.proofs.ExprSound.{moved}
+use Rattle.c_phrase.proofs.CompleteDecl.{specs_begin}
 use Rattle.c_parse.proofs.StmtSteps.{line_none, line_found, nothing_external, externals_read}
 use Rattle.c_parse.proofs.StmtSound.{external_sound}
 use Rattle.c_parse.proofs.StmtComplete.{complete_external}
@@ -31,7 +31,7 @@ use Rattle.c_parse.proofs.StmtComplete.{complete_external}
 token_eq : (t : Token) (ts rest : List Token) (k : TokenKind) → head (t ∷ ts) ≡ a_token k rest → ts ≡ rest
 token_eq t ts rest k e = (let h : a_token t.kind ts ≡ a_token k rest = e in cc)
 
-shorter_by_one : (ts rest : List Token) (k : TokenKind) → head ts ≡ a_token k rest → length rest < length ts
+pub shorter_by_one : (ts rest : List Token) (k : TokenKind) → head ts ≡ a_token k rest → length rest < length ts
 shorter_by_one [] rest k e = absurd (let h : no_token ≡ a_token k rest = e in cc)
 shorter_by_one (t ∷ ts) rest k e = subst (λ l. length l < suc (length ts)) (token_eq t ts rest k e) (omega arith)
 

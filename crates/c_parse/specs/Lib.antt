@@ -1,7 +1,4 @@
-pub mod Look
-pub mod Reader
 pub mod StmtReader
-pub mod CodeView
-pub mod Leads
-pub mod Parts
 pub mod StmtParts
+pub mod StmtFound
+pub mod Refused

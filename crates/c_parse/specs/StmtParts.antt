@@ -15,10 +15,10 @@ use Rattle.c_tree.specs.Grammar.{line_form, unit_form, Placed}
 use Rattle.c_tree.specs.Shaped.{ShapedUnit}
 use Rattle.c_tree.specs.Shape.{NodeShape, MaybeNode, SpecShapes, DeclaratorShape, LabelShape, case, default, FormShape, ItemShapes, more_items, ExternalShape, UnitShape}
 use Rattle.c_tree.specs.View.{label_shape, stmt_shape, external_shape}
-use Rattle.c_parse.specs.Look.{Got, got, then_go, go_after, either_way, Finds, after_key, expect}
-use Rattle.c_parse.specs.Reader.{reads}
+use Rattle.c_phrase.specs.Look.{Got, got, then_go, go_after, either_way, Finds, after_key, expect}
+use Rattle.c_phrase.specs.Reader.{reads}
 use Rattle.c_parse.specs.StmtReader.{in_parens, maybe_before, compound_got, if_from, while_from, do_from, for_from, switch_from, return_got, simply_got, reads_marks, reads_labels, reads_stmt, reads_items, reads_compound, inside, external_specs, external_first, external_body, reads_external}
-use Rattle.c_parse.specs.Leads.{Leads}
+use Rattle.c_phrase.specs.Leads.{Leads}
 
 -- an expression in parentheses, with d levels above it
 abbrev pub parens : ℕ → ℕ → List Token → Got NodeShape

@@ -1,10 +1,9 @@
-//! The parser: tokens into the one tree that is written by them. The reader is a plain function on lists
-//! (specs/Reader, StmtReader), proved to find each tree that the grammar allows, no other one, and the place where
-//! there is none (proofs/Sound, Complete, StmtSound, StmtComplete, UnitWhole).
+//! The parser: tokens into the one tree that is written by them. The reader of statements and units is a plain
+//! function on lists (specs/StmtReader), proved to find each tree that the grammar allows, no other one, and the place
+//! where there is none (proofs/StmtSound, StmtComplete, UnitWhole).
 #![tactic(auto)]
 
-pub mod levels;
-pub mod look;
-pub mod nodes;
+mod forms;
 pub mod refusal;
-pub mod stars;
+mod stmt;
+pub mod unit;

@@ -1,0 +1,4 @@
+pub mod Kinds
+pub mod Verdicts
+pub mod Laws
+pub mod Layouts

@@ -1,0 +1,6 @@
+pub mod Look
+pub mod Reader
+pub mod CodeView
+pub mod Leads
+pub mod Parts
+pub mod Found
