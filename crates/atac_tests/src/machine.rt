@@ -2,7 +2,7 @@ use atac_base::place::{IntKind, Pos};
 use atac_base::probes::{Event, EventList};
 use c_machine::end::End;
 use c_machine::run::run;
-use c_tree::text::Text;
+use c_syntax::text::Text;
 use first_tree::program::Program;
 use first_tree::tree::{
     BinaryOp, CType, Compound, Decl, Declarator, Expr, ExprProbe, External, Init, Item, Named,

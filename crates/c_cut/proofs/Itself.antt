@@ -2,8 +2,8 @@
 use Rattle.std.proofs.Common.{◌≡◌, ℕ, zero, suc, ◌+◌, List, [], ◌∷◌, length, take, drop, Option, Some, None, refl, ap, subst, sym, ◌∙◌, arith}
 use Rattle.std.proofs.lemmas.Bool.{and_right, cond_both, cond-true, cond-false, and_parts, eqb-true, ne_eqb, or_left, false≢true}
 use Rattle.std.specs.Prelude.{Bool, true, false, cond, nat_eq, not, ◌&&◌, ◌||◌, codes}
-use Rattle.c_tree.specs.declared.token.Mark.{Mark}
-use Rattle.c_tree.specs.declared.token.Mark.TheVariants as mark
+use Rattle.c_syntax.specs.declared.token.Mark.{Mark}
+use Rattle.c_syntax.specs.declared.token.Mark.TheVariants as mark
 use Rattle.c_cut.specs.declared.bytes.ByteSet.{ByteSet}
 use Rattle.c_cut.specs.declared.bytes.ByteSet.TheVariants.{Blank, InWord, InNumber}
 use Rattle.c_cut.specs.declared.front.Class.{Class}

@@ -4,8 +4,8 @@ use Rattle.std.proofs.lemmas.Bool.{and_parts, or_cases, false≢true, leb-true}
 use Rattle.std.proofs.lemmas.Option.{none-some}
 use Rattle.std.proofs.lemmas.Slice.Eq.{bytes_eq-Decides}
 use Rattle.std.specs.Prelude.{Bool, true, false, cond, ◌&&◌, ◌||◌, nat_le, bytes_eq, unwrap_or}
-use Rattle.c_tree.specs.declared.token.Mark.{Mark}
-use Rattle.c_tree.specs.declared.token.Mark.TheVariants as mark
+use Rattle.c_syntax.specs.declared.token.Mark.{Mark}
+use Rattle.c_syntax.specs.declared.token.Mark.TheVariants as mark
 use Rattle.c_cut.specs.Marks.{mark_bytes, marks, mark_front, first_in_front, is_front}
 
 -- no mark of the list has more bytes

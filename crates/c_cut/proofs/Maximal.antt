@@ -3,7 +3,7 @@ use Rattle.std.proofs.Common.{◌≡◌, ℕ, zero, suc, ◌≤◌, List, [], �
 use Rattle.std.proofs.lemmas.Bool.{and_parts, and_from, eqb-true, false≢true, both_ways, or_parts}
 use Rattle.std.proofs.lemmas.Option.{none-some}
 use Rattle.std.specs.Prelude.{Bool, true, false, cond, nat_eq, not, ◌&&◌, ◌||◌, codes, unwrap_or}
-use Rattle.c_tree.specs.declared.token.Mark.{Mark}
+use Rattle.c_syntax.specs.declared.token.Mark.{Mark}
 use Rattle.c_cut.specs.declared.bytes.ByteSet.{ByteSet}
 use Rattle.c_cut.specs.declared.bytes.ByteSet.TheVariants.{Blank, InWord, InNumber}
 use Rattle.c_cut.specs.declared.front.Class.{Class}

@@ -2,7 +2,7 @@
 use Rattle.std.proofs.Common.{◌≡◌, ℕ, suc, ◌+◌, ◌-◌, ◌*◌, ◌/◌, ◌%◌, ◌<◌, List, [], ◌∷◌, ◌++◌, length, take, Option, Some, None, refl, ap, sym, ◌∙◌, arith, append_assoc, append-nil, length-append}
 use Rattle.std.proofs.lemmas.Bool.{ne_eqb, and_from, le-leb, lt-ltb, cond-true, cond-false}
 use Rattle.std.specs.Prelude.{Bool, true, false, cond, nat_eq, nat_le, option_map}
-use Rattle.c_tree.specs.declared.token.TokenKind.TheVariants as token
+use Rattle.c_syntax.specs.declared.token.TokenKind.TheVariants as token
 use Rattle.c_cut.specs.declared.bytes.ByteSet.TheVariants.{Digit}
 use Rattle.c_cut.specs.declared.front.Class.TheVariants as class
 use Rattle.c_cut.specs.declared.front.Front.TheVariants.{Piece}

@@ -8,15 +8,15 @@ use Rattle.c_cut.specs.declared.bytes.ByteSet.TheVariants.{InWord, InNumber}
 use Rattle.c_cut.specs.Numbers.{is_right}
 use Rattle.c_cut.specs.Written.{IsWord, IsNumber, token_bytes, class_of, IsToken}
 use Rattle.c_cut.proofs.Quoted.{take_whole, char_read, char_kind_read, str_read, str_kind_read}
-use Rattle.c_tree.specs.declared.token.TokenKind.{TokenKind}
+use Rattle.c_syntax.specs.declared.token.TokenKind.{TokenKind}
 use Rattle.c_cut.proofs.Runs.{IsPast, run_whole}
-use Rattle.c_tree.specs.declared.token.Mark.{Mark}
-use Rattle.c_tree.specs.declared.token.Mark.TheVariants as mark
-use Rattle.c_tree.specs.declared.token.Key.{Key}
-use Rattle.c_tree.specs.declared.token.Key.TheVariants as key
-use Rattle.c_tree.specs.declared.token.ProbeWord.{ProbeWord}
-use Rattle.c_tree.specs.declared.token.ProbeWord.TheVariants as probe
-use Rattle.c_tree.specs.declared.token.TokenKind.TheVariants as token
+use Rattle.c_syntax.specs.declared.token.Mark.{Mark}
+use Rattle.c_syntax.specs.declared.token.Mark.TheVariants as mark
+use Rattle.c_syntax.specs.declared.token.Key.{Key}
+use Rattle.c_syntax.specs.declared.token.Key.TheVariants as key
+use Rattle.c_syntax.specs.declared.token.ProbeWord.{ProbeWord}
+use Rattle.c_syntax.specs.declared.token.ProbeWord.TheVariants as probe
+use Rattle.c_syntax.specs.declared.token.TokenKind.TheVariants as token
 use Rattle.c_cut.specs.declared.front.Class.TheVariants as class
 use Rattle.c_cut.specs.declared.front.Front.TheVariants.{Refused, Piece}
 use Rattle.c_cut.specs.Front.{front, number_piece}

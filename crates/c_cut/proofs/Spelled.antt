@@ -3,11 +3,11 @@ use Rattle.std.proofs.Common.{◌≡◌, ℕ, zero, suc, ◌+◌, ◌-◌, ◌<�
 use Rattle.std.proofs.lemmas.Bool.{cond_both, cond-false, and_parts, leb-true, false≢true}
 use Rattle.std.proofs.lemmas.Option.{none-some}
 use Rattle.std.specs.Prelude.{Bool, true, false, cond, nat_eq, nat_lt, nat_le, ◌&&◌, ◌||◌, codes, option_map, unwrap_or}
-use Rattle.c_tree.specs.declared.token.Key.{Key}
-use Rattle.c_tree.specs.declared.token.ProbeWord.{ProbeWord}
-use Rattle.c_tree.specs.declared.token.Mark.{Mark}
-use Rattle.c_tree.specs.declared.token.TokenKind.{TokenKind}
-use Rattle.c_tree.specs.declared.token.TokenKind.TheVariants as token
+use Rattle.c_syntax.specs.declared.token.Key.{Key}
+use Rattle.c_syntax.specs.declared.token.ProbeWord.{ProbeWord}
+use Rattle.c_syntax.specs.declared.token.Mark.{Mark}
+use Rattle.c_syntax.specs.declared.token.TokenKind.{TokenKind}
+use Rattle.c_syntax.specs.declared.token.TokenKind.TheVariants as token
 use Rattle.c_cut.specs.declared.bytes.ByteSet.TheVariants.{InWord, InNumber, Digit}
 use Rattle.c_cut.specs.declared.front.Class.{Class}
 use Rattle.c_cut.specs.declared.front.Front.{Front}

@@ -3,7 +3,7 @@ use Rattle.std.proofs.Common.{◌≡◌, ℕ, zero, suc, ◌+◌, ◌-◌, ◌<�
 use Rattle.std.proofs.lemmas.Bool.{and_parts, eqb-true, false≢true}
 use Rattle.std.proofs.lemmas.Option.{none-some}
 use Rattle.std.specs.Prelude.{is_some, unwrap_or, codes, Bool, true, false, cond, nat_eq}
-use Rattle.c_tree.specs.declared.token.Mark.{Mark}
+use Rattle.c_syntax.specs.declared.token.Mark.{Mark}
 use Rattle.c_cut.specs.declared.quotes.Character.{Character}
 use Rattle.c_cut.specs.declared.quotes.Constant.TheVariants.{NotOne}
 use Rattle.c_cut.specs.Quotes.{character, characters, characters_from, constant, only, all_values, with_first}

@@ -1,6 +1,6 @@
 -- The longest piece in front of a text (C89, 2.1.1.2 and 3.1).
 use Rattle.std.specs.Prelude.{ℕ, suc, ◌+◌, ◌≤◌, ◌&&◌, ◌||◌, List, [], ◌∷◌, length, take, drop, Option, Some, None, Bool, false, nat_eq, cond, codes}
-use Rattle.c_tree.specs.declared.token.Mark.{Mark}
+use Rattle.c_syntax.specs.declared.token.Mark.{Mark}
 use Rattle.c_cut.specs.declared.bytes.ByteSet.TheVariants.{Blank, InWord, InNumber}
 use Rattle.c_cut.specs.declared.quotes.Constant.{Constant}
 use Rattle.c_cut.specs.declared.quotes.Constant.TheVariants.{Value, BadEscape, NotOne}

@@ -1,11 +1,11 @@
 -- The token that a piece spells (C89, 3.1).
 use Rattle.std.specs.Prelude.{ℕ, ◌||◌, List, [], ◌∷◌, Option, Some, None, Bool, false, cond, codes, bytes_eq, option_map}
-use Rattle.c_tree.specs.declared.token.Key.{Key}
-use Rattle.c_tree.specs.declared.token.Key.TheVariants as key
-use Rattle.c_tree.specs.declared.token.ProbeWord.{ProbeWord}
-use Rattle.c_tree.specs.declared.token.ProbeWord.TheVariants as probe
-use Rattle.c_tree.specs.declared.token.TokenKind.{TokenKind}
-use Rattle.c_tree.specs.declared.token.TokenKind.TheVariants as token
+use Rattle.c_syntax.specs.declared.token.Key.{Key}
+use Rattle.c_syntax.specs.declared.token.Key.TheVariants as key
+use Rattle.c_syntax.specs.declared.token.ProbeWord.{ProbeWord}
+use Rattle.c_syntax.specs.declared.token.ProbeWord.TheVariants as probe
+use Rattle.c_syntax.specs.declared.token.TokenKind.{TokenKind}
+use Rattle.c_syntax.specs.declared.token.TokenKind.TheVariants as token
 use Rattle.c_cut.specs.declared.quotes.Constant.{Constant}
 use Rattle.c_cut.specs.declared.quotes.Constant.TheVariants.{Value, BadEscape, NotOne}
 use Rattle.c_cut.specs.declared.front.Class.{Class}

@@ -1,7 +1,7 @@
 -- The marks (C89, 3.1.5 and 3.1.6), and the longest one in front of a text.
 use Rattle.std.specs.Prelude.{ℕ, ◌&&◌, List, [], ◌∷◌, Option, Some, None, Bool, true, false, nat_eq, cond, codes}
-use Rattle.c_tree.specs.declared.token.Mark.{Mark}
-use Rattle.c_tree.specs.declared.token.Mark.TheVariants.{LeftBracket, RightBracket, LeftParen, RightParen, LeftBrace, RightBrace, Dot, Arrow, PlusPlus, MinusMinus, Ampersand, Star, Plus, Minus, Tilde, Bang, Slash, Percent, ShiftLeft, ShiftRight, Less, Greater, LessEqual, GreaterEqual, EqualEqual, NotEqual, Caret, Bar, AndAnd, OrOr, Question, Colon, Semicolon, Equal, StarEqual, SlashEqual, PercentEqual, PlusEqual, MinusEqual, LeftEqual, RightEqual, AndEqual, CaretEqual, BarEqual, Comma}
+use Rattle.c_syntax.specs.declared.token.Mark.{Mark}
+use Rattle.c_syntax.specs.declared.token.Mark.TheVariants.{LeftBracket, RightBracket, LeftParen, RightParen, LeftBrace, RightBrace, Dot, Arrow, PlusPlus, MinusMinus, Ampersand, Star, Plus, Minus, Tilde, Bang, Slash, Percent, ShiftLeft, ShiftRight, Less, Greater, LessEqual, GreaterEqual, EqualEqual, NotEqual, Caret, Bar, AndAnd, OrOr, Question, Colon, Semicolon, Equal, StarEqual, SlashEqual, PercentEqual, PlusEqual, MinusEqual, LeftEqual, RightEqual, AndEqual, CaretEqual, BarEqual, Comma}
 
 -- how a mark is written
 abbrev pub mark_bytes : Mark → List ℕ

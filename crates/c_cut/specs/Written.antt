@@ -1,7 +1,7 @@
 -- How a token is written: as it is spelled, with the bytes of characters and strings as themselves or as octal escapes.
 use Rattle.std.specs.Prelude.{◌≡◌, ◌<◌, ℕ, ◌+◌, ◌/◌, ◌%◌, ◌&&◌, ◌||◌, List, [], ◌∷◌, ◌++◌, None, Bool, true, not, nat_eq, cond}
-use Rattle.c_tree.specs.declared.token.TokenKind.{TokenKind}
-use Rattle.c_tree.specs.declared.token.TokenKind.TheVariants as token
+use Rattle.c_syntax.specs.declared.token.TokenKind.{TokenKind}
+use Rattle.c_syntax.specs.declared.token.TokenKind.TheVariants as token
 use Rattle.c_cut.specs.declared.bytes.ByteSet.TheVariants.{InWord, InNumber}
 use Rattle.c_cut.specs.declared.front.Class.{Class}
 use Rattle.c_cut.specs.declared.front.Class.TheVariants as class

@@ -9,7 +9,7 @@ use crate::bytes::{ByteSet, blank, digit, letter, run_of};
 use crate::marks::{longest_mark, size_of};
 use crate::numbers::right;
 use crate::quotes::{Constant, all_right, constant_of, end_of};
-use c_tree::token::Mark;
+use c_syntax::token::Mark;
 
 /// What a piece is (C89, 3.1): a run of blanks that end no line, the end of a line, a comment, a word, a number, a
 /// character constant, a string, a mark, or a `#`.

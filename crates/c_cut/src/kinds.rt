@@ -5,8 +5,8 @@ ghost use Rattle.c_cut.specs.Kinds.{key_of, probe_of, left_out, kind};
 use crate::front::Class;
 use crate::quotes::{Constant, character_of, constant_of};
 use atac_base::place::NoMemory;
-use c_tree::text::Text;
-use c_tree::token::{Key, ProbeWord, TokenKind};
+use c_syntax::text::Text;
+use c_syntax::token::{Key, ProbeWord, TokenKind};
 use std::alloc::Global;
 
 fn read_key(word: &[u8]) -> Option<Key>

@@ -1,7 +1,7 @@
 ghost use Rattle.std.specs.Prelude.{◌≡◌, ◌≤◌, [], ◌∷◌, length};
 ghost use Rattle.c_cut.specs.Marks.{mark_bytes, mark_front};
 
-use c_tree::token::Mark;
+use c_syntax::token::Mark;
 
 /// The longest mark that begins with these bytes; a byte behind the text's end is 0.
 pub(crate) fn longest_mark(first: u8, second: u8, third: u8) -> Option<Mark>

@@ -1,6 +1,6 @@
 use crate::front::{Class, Front, longest};
 use crate::kinds::{is_left_out, kind_of};
-use c_tree::token::{Key, Mark, ProbeWord, TokenKind};
+use c_syntax::token::{Key, Mark, ProbeWord, TokenKind};
 use std::test::Fail;
 
 fn piece(class: Class, len: usize) -> Front {

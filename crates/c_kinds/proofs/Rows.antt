@@ -1,8 +1,8 @@
 -- Worked rows, from the standard's text and the tables of types.
 use Rattle.std.proofs.Common.{◌≡◌, true, false, Some, None, [], ◌∷◌, refl}
 use Rattle.atac_base.specs.declared.place.IntKind.TheVariants.{Char, Short, Int, Long, UChar, UShort, UInt, ULong}
-use Rattle.c_tree.specs.Shape.{int, pointer, array, structure, nothing}
-use Rattle.c_tree.specs.declared.tree.BinaryOp.TheVariants as op
+use Rattle.c_syntax.specs.Shape.{int, pointer, array, structure, nothing}
+use Rattle.c_syntax.specs.declared.tree.BinaryOp.TheVariants as op
 use Rattle.c_kinds.specs.declared.kinds.Radix.TheVariants.{Octal, Decimal, Hexadecimal}
 use Rattle.c_kinds.specs.declared.extent.Align.TheVariants.{One, Two, Four, Eight}
 use Rattle.c_kinds.specs.Layouts.{known, incomplete, too_large, measure, structure_measure}

@@ -2,7 +2,7 @@
 use Rattle.std.proofs.Common.{rules, ◌≡◌, ℕ, true, nat_eq, refl}
 use Rattle.atac_base.specs.declared.place.IntKind.{IntKind}
 use Rattle.atac_base.specs.declared.place.IntKind.TheVariants.{Char, Short, Int, Long, UChar, UShort, UInt, ULong}
-use Rattle.c_tree.specs.Shape.{TypeOf, int, pointer, array, structure, nothing}
+use Rattle.c_syntax.specs.Shape.{TypeOf, int, pointer, array, structure, nothing}
 use Rattle.c_kinds.specs.Kinds.{same_int, same_type}
 
 pub same_int_refl : (k : IntKind) → same_int k k ≡ true

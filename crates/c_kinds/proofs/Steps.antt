@@ -2,9 +2,9 @@
 use Rattle.std.proofs.Common.{◌≡◌, Bool, true, false, Option, Some, None, refl, ap}
 use Rattle.atac_base.specs.declared.place.IntKind.{IntKind}
 use Rattle.atac_base.specs.declared.place.IntKind.TheVariants.{Int, Long}
-use Rattle.c_tree.specs.Shape.{TypeOf, int, pointer, array, structure, nothing}
-use Rattle.c_tree.specs.declared.tree.BinaryOp.{BinaryOp}
-use Rattle.c_tree.specs.declared.tree.BinaryOp.TheVariants as op
+use Rattle.c_syntax.specs.Shape.{TypeOf, int, pointer, array, structure, nothing}
+use Rattle.c_syntax.specs.declared.tree.BinaryOp.{BinaryOp}
+use Rattle.c_syntax.specs.declared.tree.BinaryOp.TheVariants as op
 use Rattle.c_kinds.specs.Kinds.{same_type}
 use Rattle.c_kinds.specs.Verdicts.{wrong, on, fine_if, moves, stored_type, changed_type, step_type, scalar_type}
 use Rattle.c_kinds.proofs.Same.{same_refl}

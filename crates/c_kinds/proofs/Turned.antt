@@ -2,9 +2,9 @@
 use Rattle.std.proofs.Common.{◌≡◌, ℕ, Bool, true, false, ◌||◌, Some, None, nat_eq, refl, ap, rules}
 use Rattle.atac_base.specs.declared.place.IntKind.{IntKind}
 use Rattle.atac_base.specs.declared.place.IntKind.TheVariants.{Char, Short, Int, Long, UChar, UShort, UInt, ULong}
-use Rattle.c_tree.specs.Shape.{TypeOf, int, pointer, array, structure, nothing}
-use Rattle.c_tree.specs.declared.tree.BinaryOp.{BinaryOp}
-use Rattle.c_tree.specs.declared.tree.BinaryOp.TheVariants as op
+use Rattle.c_syntax.specs.Shape.{TypeOf, int, pointer, array, structure, nothing}
+use Rattle.c_syntax.specs.declared.tree.BinaryOp.{BinaryOp}
+use Rattle.c_syntax.specs.declared.tree.BinaryOp.TheVariants as op
 use Rattle.c_kinds.specs.Kinds.{same_int, same_type, decay, meet}
 use Rattle.c_kinds.specs.Verdicts.{fine, wrong, on, fine_if, null_for, arithmetic_type, sum_type, order_type, equality_type, operator_type, target_of}
 use Rattle.c_kinds.specs.Laws.{commutes, OperandsTurn, ElementsTurn, VoidIsNone, FitsItself, AddressLeadsBack}

@@ -1,11 +1,11 @@
--- The types of C: which are equal, how integers are widened, and the type of an integer constant. A type is a shape of c_tree.
+-- The types of C: which are equal, how integers are widened, and the type of an integer constant. A type is a shape of c_syntax.
 use Rattle.std.specs.Prelude.{ℕ, Bool, true, false, ◌&&◌, ◌||◌, List, [], ◌∷◌, Option, Some, None, pos, nat_eq, nat_lt, if◌then◌else◌}
 use Rattle.atac_base.specs.declared.place.IntKind.{IntKind}
 use Rattle.atac_base.specs.declared.place.IntKind.TheVariants.{Char, Short, Int, Long, UChar, UShort, UInt, ULong}
 use Rattle.c_arith.specs.Arith.{width, in_range}
-use Rattle.c_tree.specs.declared.tree.CType.{CType}
-use Rattle.c_tree.specs.Shape.{TypeOf, int, pointer, array, structure, nothing}
-use Rattle.c_tree.specs.View.{type_of}
+use Rattle.c_syntax.specs.declared.tree.CType.{CType}
+use Rattle.c_syntax.specs.Shape.{TypeOf, int, pointer, array, structure, nothing}
+use Rattle.c_syntax.specs.View.{type_of}
 use Rattle.c_kinds.specs.declared.kinds.Radix.{Radix}
 use Rattle.c_kinds.specs.declared.kinds.Radix.TheVariants.{Octal, Decimal, Hexadecimal}
 use Rattle.c_kinds.specs.declared.kinds.Suffix.{Suffix}

@@ -2,9 +2,9 @@
 use Rattle.std.specs.Prelude.{◌≡◌, ◌≢◌, ℕ, ◌+◌, ◌%◌, ◌<◌, ◌≤◌, ℤ, pos, ◌≤ℤ◌, Bool, true, false, Option}
 use Rattle.atac_base.specs.declared.place.IntKind.{IntKind}
 use Rattle.c_arith.specs.Arith.{InRange, is_signed}
-use Rattle.c_tree.specs.Shape.{TypeOf, nothing}
-use Rattle.c_tree.specs.declared.tree.BinaryOp.{BinaryOp}
-use Rattle.c_tree.specs.declared.tree.BinaryOp.TheVariants as op
+use Rattle.c_syntax.specs.Shape.{TypeOf, nothing}
+use Rattle.c_syntax.specs.declared.tree.BinaryOp.{BinaryOp}
+use Rattle.c_syntax.specs.declared.tree.BinaryOp.TheVariants as op
 use Rattle.c_kinds.specs.Kinds.{is_scalar}
 use Rattle.c_kinds.specs.Verdicts.{fine, wrong, on, operator_type, binary_type, element_type, stored_type, address_of, target_of}
 

@@ -2,7 +2,7 @@
 use Rattle.std.specs.Prelude.{ℕ, ◌+◌, ◌-◌, ◌*◌, ◌%◌, List, [], ◌∷◌, map, slice_get, Option, Some, None, nat_eq, nat_lt, nat_le, if◌then◌else◌}
 use Rattle.atac_base.specs.declared.place.IntKind.{IntKind}
 use Rattle.atac_base.specs.declared.place.IntKind.TheVariants.{Char, Short, Int, Long, UChar, UShort, UInt, ULong}
-use Rattle.c_tree.specs.Shape.{TypeOf, int, pointer, array, structure, nothing}
+use Rattle.c_syntax.specs.Shape.{TypeOf, int, pointer, array, structure, nothing}
 use Rattle.c_kinds.specs.declared.extent.Align.{Align}
 use Rattle.c_kinds.specs.declared.extent.Align.TheVariants.{One, Two, Four, Eight}
 use Rattle.c_kinds.specs.declared.extent.Layout.{Layout}

@@ -1,10 +1,10 @@
 -- What each operator makes of the types of its operands. Inner definitions speak of values, in which an array has become a pointer.
 use Rattle.std.specs.Prelude.{Bool, true, false, ◌||◌, Option, Some, None, if◌then◌else◌}
 use Rattle.atac_base.specs.declared.place.IntKind.TheVariants.{Int, Long, ULong}
-use Rattle.c_tree.specs.Shape.{TypeOf, int, pointer, structure, nothing}
-use Rattle.c_tree.specs.View.{type_of}
-use Rattle.c_tree.specs.declared.tree.BinaryOp.{BinaryOp}
-use Rattle.c_tree.specs.declared.tree.BinaryOp.TheVariants as op
+use Rattle.c_syntax.specs.Shape.{TypeOf, int, pointer, structure, nothing}
+use Rattle.c_syntax.specs.View.{type_of}
+use Rattle.c_syntax.specs.declared.tree.BinaryOp.{BinaryOp}
+use Rattle.c_syntax.specs.declared.tree.BinaryOp.TheVariants as op
 use Rattle.c_kinds.specs.declared.judged.Judged.{Judged}
 use Rattle.c_kinds.specs.declared.judged.Judged.TheVariants.{Fine, Unknown, Wrong}
 use Rattle.c_kinds.specs.Kinds.{same_type, is_integer, is_scalar, decay, promote, meet}

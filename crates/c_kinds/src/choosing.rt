@@ -1,14 +1,14 @@
 // Tests, and what is chosen by one.
 
 ghost use Rattle.std.specs.Prelude.{◌≡◌};
-ghost use Rattle.c_tree.specs.View.{type_of};
+ghost use Rattle.c_syntax.specs.View.{type_of};
 ghost use Rattle.c_kinds.specs.Kinds.{type_in};
 ghost use Rattle.c_kinds.specs.Verdicts.{verdict_of, truth_type, logical_type, conditional_type, branches_type, alike_type};
 
 use crate::judged::{Judged, Operand, fine_if, int_if, null_for};
 use crate::kinds::{common, decayed, is_scalar, same};
 use atac_base::place::IntKind;
-use c_tree::tree::CType;
+use c_syntax::tree::CType;
 
 /// `!`, and the test of an `if` or a loop (C89, 3.3.3.3, 3.6.4.1 and 3.6.5): a scalar, whose comparison with 0 is an int.
 pub fn truth(kind: Option<CType>) -> Judged

@@ -1,12 +1,12 @@
 // What an operator makes of the types of its operands.
 
 ghost use Rattle.std.specs.Prelude.{◌≡◌};
-ghost use Rattle.c_tree.specs.View.{type_of};
-ghost use Rattle.c_tree.specs.Shape.{int};
+ghost use Rattle.c_syntax.specs.View.{type_of};
+ghost use Rattle.c_syntax.specs.Shape.{int};
 ghost use Rattle.c_kinds.specs.Verdicts.{verdict_of, fine_if, null_for};
 
 use atac_base::place::IntKind;
-use c_tree::tree::CType;
+use c_syntax::tree::CType;
 
 /// What comes of an operator: the type of its result; nothing, where a complaint stands inside an operand; or that
 /// operands of these types may not stand there.

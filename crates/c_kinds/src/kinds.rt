@@ -1,10 +1,10 @@
 ghost use Rattle.std.specs.Prelude.{◌≡◌, ◌≤◌, ◌↔◌, IsTrue, IfOk, pos};
 ghost use Rattle.c_arith.specs.Arith.{width, InRange, IsPromoted};
-ghost use Rattle.c_tree.specs.View.{type_of};
+ghost use Rattle.c_syntax.specs.View.{type_of};
 ghost use Rattle.c_kinds.specs.Kinds.{same_type, is_integer, is_scalar, decay, promote, meet, constant_type};
 
 use atac_base::place::{IntKind, NoMemory};
-use c_tree::tree::CType;
+use c_syntax::tree::CType;
 use std::alloc::Global;
 
 /// How a constant's digits are written (C89, 3.1.3.2).

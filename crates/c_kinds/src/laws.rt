@@ -10,7 +10,7 @@ use crate::extent::Align;
 use crate::kinds::common;
 use atac_base::place::IntKind;
 use c_arith::convert;
-use c_tree::tree::BinaryOp;
+use c_syntax::tree::BinaryOp;
 
 /// The promoted type has each value of the type itself (C89, 3.2.1.1).
 pub fn promotion_keeps(kind: IntKind)

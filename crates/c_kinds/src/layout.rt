@@ -1,12 +1,12 @@
 // The room of each type, and of a structure.
 
 ghost use Rattle.std.specs.Prelude.{◌≡◌, ◌+◌, ◌*◌, ◌≤◌, map};
-ghost use Rattle.c_tree.specs.View.{type_of};
+ghost use Rattle.c_syntax.specs.View.{type_of};
 ghost use Rattle.c_kinds.specs.Layouts.{extent_of, measure_of, measures, limited, onward, bytes, stricter, round_up, scalar, int_align, repeated, numbered, measure, empty, joined, closed, known, followed, structure_measure};
 
 use crate::extent::{Align, Layout, Measured};
 use atac_base::place::IntKind;
-use c_tree::tree::CType;
+use c_syntax::tree::CType;
 
 /// The room of the type (C89, 3.3.3.4), over the room of each structure, the first of which has the number 1. Incomplete is a
 /// void, a structure without a row, and what has an incomplete one inside; too large is what has more than 1048576 cells.

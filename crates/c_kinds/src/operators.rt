@@ -1,14 +1,14 @@
 // The operators between two operands, and those that change their left one.
 
 ghost use Rattle.std.specs.Prelude.{◌≡◌};
-ghost use Rattle.c_tree.specs.View.{type_of};
+ghost use Rattle.c_syntax.specs.View.{type_of};
 ghost use Rattle.c_kinds.specs.Kinds.{type_in};
 ghost use Rattle.c_kinds.specs.Verdicts.{verdict_of, arithmetic_type, shift_type, sum_type, difference_type, order_type, equality_type, values_type, binary_type};
 
 use crate::judged::{Judged, Operand, int_if, null_for};
 use crate::kinds::{common, decayed, promoted, same};
 use atac_base::place::IntKind;
-use c_tree::tree::{BinaryOp, CType};
+use c_syntax::tree::{BinaryOp, CType};
 
 /// The operator between two operands (C89, 3.3.5 to 3.3.12), arrays taken as pointers to their first elements.
 ///

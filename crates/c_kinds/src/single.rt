@@ -7,7 +7,7 @@ ghost use Rattle.c_kinds.specs.Verdicts.{verdict_of, promoted_type, target_type,
 use crate::judged::Judged;
 use crate::kinds::{boxed, promoted};
 use atac_base::place::{IntKind, NoMemory};
-use c_tree::tree::CType;
+use c_syntax::tree::CType;
 use std::alloc::Global;
 
 /// `+`, `-` and `~` (C89, 3.3.3.3), and the operand of `switch` (C89, 3.6.4.2): an integer, in its promoted type.

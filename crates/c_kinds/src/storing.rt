@@ -1,13 +1,13 @@
 // What is stored in an object: assignments, and what goes as one.
 
 ghost use Rattle.std.specs.Prelude.{◌≡◌};
-ghost use Rattle.c_tree.specs.View.{type_of};
+ghost use Rattle.c_syntax.specs.View.{type_of};
 ghost use Rattle.c_kinds.specs.Kinds.{type_in};
 ghost use Rattle.c_kinds.specs.Verdicts.{verdict_of, stored_type, fits_type, changed_type, compound_type, moves, step_type, scalar_type, parameter_type, result_type};
 
 use crate::judged::{Judged, Operand, fine_if, null_for};
 use crate::kinds::{decayed, is_integer, is_scalar, same};
-use c_tree::tree::{BinaryOp, CType};
+use c_syntax::tree::{BinaryOp, CType};
 
 /// Whether the value fits into an object of that type, which is then the type of `=` (C89, 3.3.16.1): an integer into an
 /// integer, a pointer into a pointer of the equal type, a null constant into a pointer. So an argument goes into its

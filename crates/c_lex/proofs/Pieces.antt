@@ -3,7 +3,7 @@ use Rattle.std.proofs.Common.{◌≡◌, ℕ, zero, suc, ◌<◌, ◌≤◌, Lis
 use Rattle.std.specs.Prelude.{flat_map, replicate, ◌==◌, ◌&&◌, ◌||◌, codes}
 use Rattle.std.proofs.lemmas.Bool.{cond_both}
 use Rattle.std.proofs.lemmas.Bool.Decides.{nat_tests}
-use Rattle.c_tree.specs.declared.token.Mark.{Mark}
+use Rattle.c_syntax.specs.declared.token.Mark.{Mark}
 use Rattle.c_cut.specs.declared.bytes.ByteSet.TheVariants.{InNumber}
 use Rattle.c_cut.specs.declared.quotes.Constant.{Constant}
 use Rattle.c_cut.specs.declared.quotes.Constant.TheVariants.{Value, BadEscape, NotOne}

@@ -5,15 +5,15 @@ use Rattle.std.proofs.lemmas.Bool.Decides.{nat_tests}
 use Rattle.std.specs.Prelude.{flat_map, slice_get, slice_set, option_map, bytes_eq, replicate, is_some, codes, ◌&&◌, ◌||◌, nat_le, ◌==◌}
 use Rattle.std.specs.List.{list_any}
 use Rattle.atac_base.specs.declared.place.Pos.{Pos}
-use Rattle.c_tree.specs.declared.token.Mark.{Mark}
-use Rattle.c_tree.specs.declared.token.Mark.TheVariants as mark
-use Rattle.c_tree.specs.declared.token.Key.{Key}
-use Rattle.c_tree.specs.declared.token.Key.TheVariants as key
-use Rattle.c_tree.specs.declared.token.ProbeWord.{ProbeWord}
-use Rattle.c_tree.specs.declared.token.ProbeWord.TheVariants as probe
-use Rattle.c_tree.specs.declared.token.Token.{Token}
-use Rattle.c_tree.specs.declared.token.TokenKind.{TokenKind}
-use Rattle.c_tree.specs.declared.token.TokenKind.TheVariants as token
+use Rattle.c_syntax.specs.declared.token.Mark.{Mark}
+use Rattle.c_syntax.specs.declared.token.Mark.TheVariants as mark
+use Rattle.c_syntax.specs.declared.token.Key.{Key}
+use Rattle.c_syntax.specs.declared.token.Key.TheVariants as key
+use Rattle.c_syntax.specs.declared.token.ProbeWord.{ProbeWord}
+use Rattle.c_syntax.specs.declared.token.ProbeWord.TheVariants as probe
+use Rattle.c_syntax.specs.declared.token.Token.{Token}
+use Rattle.c_syntax.specs.declared.token.TokenKind.{TokenKind}
+use Rattle.c_syntax.specs.declared.token.TokenKind.TheVariants as token
 use Rattle.c_cut.specs.declared.quotes.Constant.{Constant}
 use Rattle.c_cut.specs.declared.quotes.Constant.TheVariants.{Value, BadEscape, NotOne}
 use Rattle.c_cut.specs.declared.front.Class.{Class}

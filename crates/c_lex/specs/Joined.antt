@@ -1,8 +1,8 @@
 -- Adjacent strings are one (C89, 2.1.1.2), with the first one's place.
 use Rattle.std.specs.Prelude.{ℕ, List, [], ◌∷◌, ◌++◌, Option, Some, None}
-use Rattle.c_tree.specs.declared.token.Token.{Token}
-use Rattle.c_tree.specs.declared.token.TokenKind.{TokenKind}
-use Rattle.c_tree.specs.declared.token.TokenKind.TheVariants as kinds
+use Rattle.c_syntax.specs.declared.token.Token.{Token}
+use Rattle.c_syntax.specs.declared.token.TokenKind.{TokenKind}
+use Rattle.c_syntax.specs.declared.token.TokenKind.TheVariants as kinds
 
 -- the bytes of a string
 abbrev pub string_of : TokenKind → Option (List ℕ)

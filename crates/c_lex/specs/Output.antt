@@ -1,8 +1,8 @@
 -- Tokens as they are given, and what limits them.
 use Rattle.std.specs.Prelude.{◌&&◌, List, [], ◌∷◌, Option, Some, None, Bool, true, false}
 use Rattle.atac_base.specs.declared.place.Pos.{Pos}
-use Rattle.c_tree.specs.declared.token.Token.{Token}
-use Rattle.c_tree.specs.declared.token.TokenKind.{TokenKind}
+use Rattle.c_syntax.specs.declared.token.Token.{Token}
+use Rattle.c_syntax.specs.declared.token.TokenKind.{TokenKind}
 use Rattle.c_cut.specs.declared.front.Class.{Class}
 use Rattle.c_cut.specs.declared.front.Class.TheVariants as class
 use Rattle.c_cut.specs.Kinds.{left_out}

@@ -1,8 +1,8 @@
 -- Tokens that a text can give: what is written is read back.
 use Rattle.std.specs.Prelude.{◌≡◌, ◌≤◌, ◌&&◌, List, [], ◌∷◌, map, length, Bool, true, false, not, is_some}
 use Rattle.std.specs.List.{list_any}
-use Rattle.c_tree.specs.declared.token.Token.{Token}
-use Rattle.c_tree.specs.declared.token.TokenKind.{TokenKind}
+use Rattle.c_syntax.specs.declared.token.Token.{Token}
+use Rattle.c_syntax.specs.declared.token.TokenKind.{TokenKind}
 use Rattle.c_cut.specs.Written.{IsToken, class_of, token_bytes}
 use Rattle.c_lex.specs.declared.lexer.TextKind.{TextKind}
 use Rattle.c_lex.specs.Macros.{Spelled, bytes_of}

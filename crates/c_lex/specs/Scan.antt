@@ -4,8 +4,8 @@ use Rattle.std.specs.Prelude.{ℕ, zero, suc, ◌+◌, ◌<◌, ◌≡◌, ◌||
 use Rattle.std.specs.List.{list_any}
 use Rattle.std.specs.Cmp.Lexicographic.{pointwise}
 use Rattle.atac_base.specs.declared.place.Pos.{Pos}
-use Rattle.c_tree.specs.declared.token.Mark.TheVariants as mark
-use Rattle.c_tree.specs.declared.token.Token.{Token}
+use Rattle.c_syntax.specs.declared.token.Mark.TheVariants as mark
+use Rattle.c_syntax.specs.declared.token.Token.{Token}
 use Rattle.c_cut.specs.declared.front.Class.{Class}
 use Rattle.c_cut.specs.declared.front.Class.TheVariants as class
 use Rattle.c_cut.specs.declared.front.Front.{Front}

@@ -1,9 +1,9 @@
 -- Tokens written as a text.
 use Rattle.std.specs.Prelude.{ℕ, List, [], ◌∷◌, ◌++◌, length, nat_eq, cond}
-use Rattle.c_tree.specs.declared.token.Mark.TheVariants as mark
-use Rattle.c_tree.specs.declared.token.Token.{Token}
-use Rattle.c_tree.specs.declared.token.TokenKind.{TokenKind}
-use Rattle.c_tree.specs.declared.token.TokenKind.TheVariants as kinds
+use Rattle.c_syntax.specs.declared.token.Mark.TheVariants as mark
+use Rattle.c_syntax.specs.declared.token.Token.{Token}
+use Rattle.c_syntax.specs.declared.token.TokenKind.{TokenKind}
+use Rattle.c_syntax.specs.declared.token.TokenKind.TheVariants as kinds
 use Rattle.c_cut.specs.Written.{token_bytes}
 
 -- what stands behind a token, by how many tokens follow: a newline after `;`, `{`, `}` and at the end, else a space

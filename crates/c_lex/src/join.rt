@@ -2,8 +2,8 @@ ghost use Rattle.std.specs.Prelude.{◌≡◌, ◌<◌, ◌≤◌, [], ◌∷◌
 ghost use Rattle.c_lex.specs.Joined.{join_behind, join_two, joined, string_of};
 
 use atac_base::place::NoMemory;
-use c_tree::text::Text;
-use c_tree::token::{Token, TokenKind};
+use c_syntax::text::Text;
+use c_syntax::token::{Token, TokenKind};
 use std::alloc::Global;
 
 /// Appends bytes to a text.

@@ -1,7 +1,7 @@
 //! Laws over every text, in the words of the definitions.
 
 ghost use Rattle.std.specs.Prelude.{◌≡◌, List, Bool, [], ◌∷◌, ◌++◌, ℕ, None, Some, flat_map, slice_set, true};
-ghost use Rattle.c_tree.specs.declared.token.Token.{Token};
+ghost use Rattle.c_syntax.specs.declared.token.Token.{Token};
 ghost use Rattle.c_lex.specs.declared.lexer.TextKind.{TextKind};
 ghost use Rattle.c_lex.specs.Macros.{Row, Spelled};
 ghost use Rattle.c_lex.specs.Expand.{expansion, gave, macro_of, replaced};

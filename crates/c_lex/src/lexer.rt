@@ -8,7 +8,7 @@ use crate::output::{Output, Room};
 use crate::scan::{LexRefusal, Scan};
 use atac_base::place::Pos;
 use c_cut::front::longest;
-use c_tree::token::Token;
+use c_syntax::token::Token;
 use indexmap::IndexMap;
 use std::alloc::Global;
 

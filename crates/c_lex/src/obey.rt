@@ -9,7 +9,7 @@ use crate::line::push;
 use crate::table::{Piece, Table, find, set};
 use atac_base::place::NoMemory;
 use c_cut::front::Class;
-use c_tree::token::Mark;
+use c_syntax::token::Mark;
 use std::alloc::Global;
 
 /// What came of a directive: it is done, or it is refused at its `#`, by a number behind its pieces, or at its name.

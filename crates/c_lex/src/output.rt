@@ -8,7 +8,7 @@ use crate::table::Piece;
 use atac_base::place::{NoMemory, Pos};
 use c_cut::front::Class;
 use c_cut::kinds::{is_left_out, kind_of};
-use c_tree::token::Token;
+use c_syntax::token::Token;
 use std::alloc::Global;
 
 /// What may still come: tokens, bytes of tokens as they are spelled, and replacements of macros.

@@ -5,7 +5,7 @@ ghost use Rattle.c_cut.specs.Written.{is_plain, token_bytes, value_bytes, values
 ghost use Rattle.c_lex.specs.Written.{end_byte, written};
 
 use atac_base::place::NoMemory;
-use c_tree::token::{Key, Mark, ProbeWord, Token, TokenKind};
+use c_syntax::token::{Key, Mark, ProbeWord, Token, TokenKind};
 use std::alloc::Global;
 
 fn mark_spelling(mark: Mark) -> &'static [u8]

@@ -14,7 +14,7 @@ use Rattle.first_tree.specs.declared.tree.BinaryOp.{BinaryOp}
 use Rattle.first_tree.specs.declared.tree.Expr.{Expr, Call, Paren, Probe, Assign, items-the_row-Node, the_lemmas, Row_of-Node, end_of-Node, more_of-Node}
 use Rattle.first_tree.specs.declared.tree.Expr.TheVariants as expr
 use Rattle.first_tree.specs.declared.tree.Node.{Node}
-use Rattle.c_tree.specs.declared.text.Text.{Text}
+use Rattle.c_syntax.specs.declared.text.Text.{Text}
 use Rattle.first_tree.specs.Shape.{NoteShape, NodeShape, node, call, assign, paren, probe, NodeShapes, no_nodes, more_nodes}
 use Rattle.first_tree.specs.View.{note_shape, probe_shape, expr_shape, node_shape, nodes_shape, node_list}
 use Rattle.c_machine.specs.Meaning.{value, form_value, place, logged}

@@ -1,4 +1,4 @@
-use c_tree::text::Text;
+use c_syntax::text::Text;
 
 /// A fault: what C leaves undefined and a run met.
 #[derive(Clone, Copy, Debug, PartialEq, Eq)]

@@ -4,7 +4,7 @@ ghost use Rattle.std.specs.Prelude.{◌≡◌, ℕ, ℤ, List, ◌∷◌};
 ghost use Rattle.c_machine.specs.Numbers.{in_int, truth, operated, byte_of as low_byte_of, is_zero as zero_test, number_after, number_of};
 ghost use Rattle.c_machine.specs.Rest.{number_on};
 
-use c_tree::text::Text;
+use c_syntax::text::Text;
 use first_tree::tree::BinaryOp;
 
 /// The value, where int has it.

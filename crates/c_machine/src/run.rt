@@ -14,7 +14,7 @@ use crate::work::Work;
 use crate::world::World;
 use atac_base::place::NoMemory;
 use atac_base::probes::Probes;
-use c_tree::text::Text;
+use c_syntax::text::Text;
 use first_tree::program::Program;
 use first_tree::tree::{Compound, Declarator, External, ProbeMark};
 use std::alloc::Global;

@@ -13,7 +13,7 @@ use crate::numbers::{number, operate};
 use crate::world::{Reply, World, known_value, variable_cell};
 use atac_base::place::NoMemory;
 use atac_base::probes::{Event, Probes};
-use c_tree::text::Text;
+use c_syntax::text::Text;
 use first_tree::tree::{BinaryOp, Expr, ExprProbe, Node};
 use std::alloc::Global;
 

@@ -8,7 +8,7 @@ ghost use Rattle.c_machine.specs.Rest.{state_of, replied};
 use crate::end::{Fault, Stop};
 use crate::numbers::{int_value, low_byte};
 use atac_base::place::NoMemory;
-use c_tree::text::Text;
+use c_syntax::text::Text;
 use first_tree::tree::Note;
 
 /// What a run changes: the variables' cells, the input that is left, the output and the turns that are left.

@@ -1,8 +1,2 @@
-pub mod CompleteAhead
-pub mod StmtComplete
-pub mod StmtSound
-pub mod StmtSteps
-pub mod StmtLabels
 pub mod UnitWhole
-pub mod StmtRead
 pub mod UnitRead

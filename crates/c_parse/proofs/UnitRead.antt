@@ -4,33 +4,33 @@ use Rattle.std.specs.Prelude.{map, ◌&&◌}
 use Rattle.std.specs.declared.vec.Vec.{Vec}
 use Rattle.std.specs.declared.alloc.Global.{Global}
 use Rattle.atac_base.specs.declared.place.Pos.{Pos}
-use Rattle.c_tree.specs.declared.token.Mark.TheVariants as marks
-use Rattle.c_tree.specs.declared.token.Token.{Token}
-use Rattle.c_tree.specs.declared.token.TokenKind.TheVariants as kind
-use Rattle.c_tree.specs.declared.tree.ProgramLine.{ProgramLine}
-use Rattle.c_tree.specs.declared.tree.ProbeMark.{ProbeMark}
-use Rattle.c_tree.specs.declared.tree.Spec.{Spec}
-use Rattle.c_tree.specs.declared.tree.Decl.{roll-Decl}
-use Rattle.c_tree.specs.declared.tree.Declarator.{Declarator}
-use Rattle.c_tree.specs.declared.tree.External.{External}
-use Rattle.c_tree.specs.Forms.{Form, is, ◌▷◌, mark, Written, place, last_place}
-use Rattle.c_tree.specs.Grammar.{specs_form, declarator_form, declarators_form, marks_form, decls_form, items_form, external_form, Placed}
-use Rattle.c_tree.specs.Levels.{type_height, specs_height, declarator_height, decl_height, compound_height}
-use Rattle.c_tree.specs.Shape.{SpecShapes, DeclShape, decl, DeclaratorShape, no_declarators, CompoundShape, braces, ExternalShape, defined, declared, UnitShape}
-use Rattle.c_tree.specs.Shaped.{ShapedUnit, in_names}
-use Rattle.c_tree.specs.View.{spec_list, decl_shape, declarator_list, external_shape}
-use Rattle.c_tree.proofs.Made.{decl_made}
-use Rattle.c_phrase.specs.Look.{Got, got, Finds, after}
-use Rattle.c_phrase.specs.Reader.{reads_some, reads_declarator}
-use Rattle.c_phrase.specs.Parts.{declaring}
-use Rattle.c_phrase.specs.Found.{Found}
+use Rattle.c_syntax.specs.declared.token.Mark.TheVariants as marks
+use Rattle.c_syntax.specs.declared.token.Token.{Token}
+use Rattle.c_syntax.specs.declared.token.TokenKind.TheVariants as kind
+use Rattle.c_syntax.specs.declared.tree.ProgramLine.{ProgramLine}
+use Rattle.c_syntax.specs.declared.tree.ProbeMark.{ProbeMark}
+use Rattle.c_syntax.specs.declared.tree.Spec.{Spec}
+use Rattle.c_syntax.specs.declared.tree.Decl.{roll-Decl}
+use Rattle.c_syntax.specs.declared.tree.Declarator.{Declarator}
+use Rattle.c_syntax.specs.declared.tree.External.{External}
+use Rattle.c_syntax.specs.Forms.{Form, is, ◌▷◌, mark, Written, place, last_place}
+use Rattle.c_syntax.specs.Grammar.{specs_form, declarator_form, declarators_form, marks_form, decls_form, items_form, external_form, Placed}
+use Rattle.c_syntax.specs.Levels.{type_height, specs_height, declarator_height, decl_height, compound_height}
+use Rattle.c_syntax.specs.Shape.{SpecShapes, DeclShape, decl, DeclaratorShape, no_declarators, CompoundShape, braces, ExternalShape, defined, declared, UnitShape}
+use Rattle.c_syntax.specs.Shaped.{ShapedUnit, in_names}
+use Rattle.c_syntax.specs.View.{spec_list, decl_shape, declarator_list, external_shape}
+use Rattle.c_syntax.proofs.Made.{decl_made}
+use Rattle.c_grammar.specs.Look.{Got, got, Finds, after}
+use Rattle.c_grammar.specs.Reader.{reads_some, reads_declarator}
+use Rattle.c_grammar.specs.Parts.{declaring}
+use Rattle.c_grammar.specs.Found.{Found}
 use Rattle.c_parse.specs.declared.refusal.ParseRefusal.{ParseRefusal}
 use Rattle.c_parse.specs.declared.refusal.ParseRefusal.TheVariants as refusals
-use Rattle.c_parse.specs.StmtReader.{reads_marks, reads_compound, is_function, body_ahead, reads_external, reads_line}
-use Rattle.c_parse.specs.StmtParts.{external_parts, external_rest, function_parts, ReadExternals, ExternalsFrom, NoUnit, SyntaxAt}
+use Rattle.c_forms.specs.StmtReader.{reads_marks, reads_compound, is_function, body_ahead, reads_external, reads_line}
+use Rattle.c_forms.specs.StmtParts.{external_parts, external_rest, function_parts, ReadExternals, ExternalsFrom, NoUnit, SyntaxAt}
 use Rattle.c_parse.specs.Refused.{ExternalsRead, BrokenAt, BrokenBy, Refused}
-use Rattle.c_parse.proofs.StmtSteps.{external_found, external_plain, external_named, external_declared, function_found, function_fails, external_list_start, external_list_more}
-use Rattle.c_parse.proofs.StmtSound.{external_sound}
+use Rattle.c_forms.proofs.StmtSteps.{external_found, external_plain, external_named, external_declared, function_found, function_fails, external_list_start, external_list_more}
+use Rattle.c_forms.proofs.StmtSound.{external_sound}
 use Rattle.c_parse.proofs.UnitWhole.{no_longer, shorter_by_one, unit_placed, unit_shaped, unit_only, syntax_line, syntax_bare, syntax_external, no_unit_line, no_unit_bare, no_unit_external}
 
 -- EXTERNAL DECLARATIONS

@@ -2,29 +2,29 @@
 use Rattle.std.proofs.Common.{◌≡◌, ℕ, zero, suc, ◌+◌, ◌≤◌, ◌<◌, List, [], ◌∷◌, length, Option, Some, None, true, false, refl, sym, ap, ◌∙◌, subst, arith, inl, inr}
 use Rattle.std.specs.Prelude.{◌≢◌, map}
 use Rattle.atac_base.specs.declared.place.Pos.{Pos}
-use Rattle.c_tree.specs.declared.text.Text.{Text}
-use Rattle.c_tree.specs.declared.token.Mark.TheVariants as marks
-use Rattle.c_tree.specs.declared.token.ProbeWord.TheVariants as words
-use Rattle.c_tree.specs.declared.token.Token.{Token}
-use Rattle.c_tree.specs.declared.token.TokenKind.{TokenKind}
-use Rattle.c_tree.specs.declared.token.TokenKind.TheVariants as kind
-use Rattle.c_tree.specs.declared.tree.ProgramLine.{ProgramLine}
-use Rattle.c_tree.specs.declared.tree.External.{External}
-use Rattle.c_tree.specs.Forms.{Form, nothing, is, at, starts, seq, ◌▷◌, Written, head, a_token, no_token, place, last_place}
-use Rattle.c_tree.specs.Shape.{decl, no_declarators, more_declarators, ExternalShape, defined, declared, UnitShape}
-use Rattle.c_tree.specs.Grammar.{line_form, maybe_line_form, external_form, externals_form, unit_form, Placed}
-use Rattle.c_tree.specs.Levels.{external_height, externals_height}
-use Rattle.c_tree.specs.Shaped.{ShapedExternal, ShapedExternals, ShapedUnit}
-use Rattle.c_tree.specs.View.{external_shape}
-use Rattle.c_phrase.specs.Look.{got, then_go, either_way, Finds, after, after_probe, string_head, a_string, is_spec, spec_of_head, spec_head}
-use Rattle.c_parse.specs.StmtReader.{line_end, line_closed, line_from, line_got, reads_line, external_onto, external_more, reads_external, reads_externals, unit_at}
-use Rattle.c_parse.specs.StmtParts.{ReadExternals, ExternalsFrom, Front, BehindLongest, SyntaxAt, NoUnit}
-use Rattle.c_phrase.proofs.Looking.{got_eq, not_got, went, opened, same_answer, after_is, after_of, after_probe_is, after_probe_of, expect_is, string_is}
-use Rattle.c_phrase.proofs.ExprSound.{moved}
-use Rattle.c_phrase.proofs.CompleteDecl.{specs_begin}
-use Rattle.c_parse.proofs.StmtSteps.{line_none, line_found, nothing_external, externals_read}
-use Rattle.c_parse.proofs.StmtSound.{external_sound}
-use Rattle.c_parse.proofs.StmtComplete.{complete_external}
+use Rattle.c_syntax.specs.declared.text.Text.{Text}
+use Rattle.c_syntax.specs.declared.token.Mark.TheVariants as marks
+use Rattle.c_syntax.specs.declared.token.ProbeWord.TheVariants as words
+use Rattle.c_syntax.specs.declared.token.Token.{Token}
+use Rattle.c_syntax.specs.declared.token.TokenKind.{TokenKind}
+use Rattle.c_syntax.specs.declared.token.TokenKind.TheVariants as kind
+use Rattle.c_syntax.specs.declared.tree.ProgramLine.{ProgramLine}
+use Rattle.c_syntax.specs.declared.tree.External.{External}
+use Rattle.c_syntax.specs.Forms.{Form, nothing, is, at, starts, seq, ◌▷◌, Written, head, a_token, no_token, place, last_place}
+use Rattle.c_syntax.specs.Shape.{decl, no_declarators, more_declarators, ExternalShape, defined, declared, UnitShape}
+use Rattle.c_syntax.specs.Grammar.{line_form, maybe_line_form, external_form, externals_form, unit_form, Placed}
+use Rattle.c_syntax.specs.Levels.{external_height, externals_height}
+use Rattle.c_syntax.specs.Shaped.{ShapedExternal, ShapedExternals, ShapedUnit}
+use Rattle.c_syntax.specs.View.{external_shape}
+use Rattle.c_grammar.specs.Look.{got, then_go, either_way, Finds, after, after_probe, string_head, a_string, is_spec, spec_of_head, spec_head}
+use Rattle.c_forms.specs.StmtReader.{line_end, line_closed, line_from, line_got, reads_line, external_onto, external_more, reads_external, reads_externals, unit_at}
+use Rattle.c_forms.specs.StmtParts.{ReadExternals, ExternalsFrom, Front, BehindLongest, SyntaxAt, NoUnit}
+use Rattle.c_grammar.proofs.Looking.{got_eq, not_got, went, opened, same_answer, after_is, after_of, after_probe_is, after_probe_of, expect_is, string_is}
+use Rattle.c_grammar.proofs.ExprSound.{moved}
+use Rattle.c_grammar.proofs.CompleteDecl.{specs_begin}
+use Rattle.c_forms.proofs.StmtSteps.{line_none, line_found, nothing_external, externals_read}
+use Rattle.c_forms.proofs.StmtSound.{external_sound}
+use Rattle.c_forms.proofs.StmtComplete.{complete_external}
 
 -- LENGTHS
 

@@ -1,4 +1,1 @@
-pub mod StmtReader
-pub mod StmtParts
-pub mod StmtFound
 pub mod Refused

@@ -1,9 +1,5 @@
-//! The parser: tokens into the one tree that is written by them. The reader of statements and units is a plain
-//! function on lists (specs/StmtReader), proved to find each tree that the grammar allows, no other one, and the place
-//! where there is none (proofs/StmtSound, StmtComplete, UnitWhole).
+//! The parser: tokens into the one unit that is written by them, or the place where there is none (proofs/UnitWhole).
 #![tactic(auto)]
 
-mod forms;
 pub mod refusal;
-mod stmt;
 pub mod unit;

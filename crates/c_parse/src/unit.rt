@@ -1,30 +1,30 @@
 ghost use Rattle.std.specs.Prelude.{◌≡◌, ◌&&◌, ◌+◌, ◌<◌, ◌≤◌, max, length, Some, None, IfOk, IfErr, IsErrOf};
-ghost use Rattle.c_tree.specs.Forms.{place, last_place};
-ghost use Rattle.c_tree.specs.Grammar.{Placed};
-ghost use Rattle.c_tree.specs.Shape.{UnitShape, decl, no_declarators};
-ghost use Rattle.c_tree.specs.Shaped.{ShapedUnit};
-ghost use Rattle.c_tree.specs.Levels.{specs_height, declarator_height};
-ghost use Rattle.c_tree.specs.View.{spec_list, decl_shape, declarator_shape, external_shape, unit_shape};
-ghost use Rattle.c_phrase.specs.Look.{Finds};
-ghost use Rattle.c_parse.specs.StmtReader.{reads_line, reads_external, is_function, body_ahead};
-ghost use Rattle.c_parse.specs.StmtParts.{external_parts, external_rest, function_parts};
+ghost use Rattle.c_syntax.specs.Forms.{place, last_place};
+ghost use Rattle.c_syntax.specs.Grammar.{Placed};
+ghost use Rattle.c_syntax.specs.Shape.{UnitShape, decl, no_declarators};
+ghost use Rattle.c_syntax.specs.Shaped.{ShapedUnit};
+ghost use Rattle.c_syntax.specs.Levels.{specs_height, declarator_height};
+ghost use Rattle.c_syntax.specs.View.{spec_list, decl_shape, declarator_shape, external_shape, unit_shape};
+ghost use Rattle.c_grammar.specs.Look.{Finds};
+ghost use Rattle.c_forms.specs.StmtReader.{reads_line, reads_external, is_function, body_ahead};
+ghost use Rattle.c_forms.specs.StmtParts.{external_parts, external_rest, function_parts};
 ghost use Rattle.c_parse.specs.Refused.{ExternalsRead, BrokenBy, Refused};
 
-use crate::forms::read_marks;
 use crate::refusal::ParseRefusal;
-use crate::stmt::read_compound;
 use atac_base::place::Pos;
+use c_forms::forms::read_marks;
+use c_grammar::look::{Standing, Stop, find_string, first_place, past, past_probe};
+use c_grammar::nodes::{copied, put};
+use c_grammar::size::higher;
 use c_phrase::decl::{read_declarator, read_declaring};
-use c_phrase::look::{Standing, Stop, find_string, first_place, past, past_probe};
-use c_phrase::nodes::{copied, put};
-use c_phrase::size::higher;
 use c_phrase::spec::read_specifiers;
-use c_tree::token::{Mark, ProbeWord, Token};
-use c_tree::tree::{Decl, DeclForm, Declarator, External, ProgramLine, Spec, Unit};
+use c_stmt::stmt::read_compound;
+use c_syntax::token::{Mark, ProbeWord, Token};
+use c_syntax::tree::{Decl, DeclForm, Declarator, External, ProgramLine, Spec, Unit};
 use std::alloc::Global;
 
 // The program line at the front, where there is one, and what follows it.
-#[tactic(auto, using(crate::proofs::StmtSteps::line_none, crate::proofs::StmtSteps::line_found, crate::proofs::StmtSteps::line_bare, crate::proofs::StmtSteps::line_stringless, crate::proofs::StmtSteps::line_open, crate::proofs::StmtSteps::line_unended))]
+#[tactic(auto, using(c_forms::proofs::StmtSteps::line_none, c_forms::proofs::StmtSteps::line_found, c_forms::proofs::StmtSteps::line_bare, c_forms::proofs::StmtSteps::line_stringless, c_forms::proofs::StmtSteps::line_open, c_forms::proofs::StmtSteps::line_unended))]
 fn read_line<'a>(
     alloc: Global,
     input: &'a [Token],
@@ -93,7 +93,7 @@ fn nameless(alloc: Global, pos: Pos, specs: Vec<Spec>) -> Decl
 }
 
 // A function's body with the block probes before it.
-#[tactic(auto, using(crate::proofs::UnitRead::function_read, crate::proofs::StmtSteps::function_bare, crate::proofs::StmtSteps::function_fails))]
+#[tactic(auto, using(crate::proofs::UnitRead::function_read, c_forms::proofs::StmtSteps::function_bare, c_forms::proofs::StmtSteps::function_fails))]
 fn read_function<'a>(
     alloc: Global,
     specs: Vec<Spec>,
@@ -114,7 +114,7 @@ fn read_function<'a>(
 }
 
 // An external declaration behind its first declarator; `levels` are those of what stands in front.
-#[tactic(auto, using(crate::proofs::StmtSteps::external_defined, crate::proofs::UnitRead::declared_read, crate::proofs::StmtSteps::external_undeclared))]
+#[tactic(auto, using(c_forms::proofs::StmtSteps::external_defined, crate::proofs::UnitRead::declared_read, c_forms::proofs::StmtSteps::external_undeclared))]
 fn read_behind<'a>(
     alloc: Global,
     pos: Pos,
@@ -148,7 +148,7 @@ fn read_behind<'a>(
 }
 
 // An external declaration behind its specifiers, whose levels are `levels`.
-#[tactic(auto, using(crate::proofs::UnitRead::plain_read, crate::proofs::UnitRead::named_read, crate::proofs::UnitRead::named_unread, crate::proofs::StmtSteps::external_nameless))]
+#[tactic(auto, using(crate::proofs::UnitRead::plain_read, crate::proofs::UnitRead::named_read, crate::proofs::UnitRead::named_unread, c_forms::proofs::StmtSteps::external_nameless))]
 fn read_names<'a>(
     alloc: Global,
     pos: Pos,
@@ -171,7 +171,7 @@ fn read_names<'a>(
 }
 
 // One external declaration, and what follows it.
-#[tactic(auto, using(crate::proofs::UnitRead::external_read, crate::proofs::UnitRead::external_unread, crate::proofs::StmtSteps::external_fails, crate::proofs::UnitRead::external_shorter))]
+#[tactic(auto, using(crate::proofs::UnitRead::external_read, crate::proofs::UnitRead::external_unread, c_forms::proofs::StmtSteps::external_fails, crate::proofs::UnitRead::external_shorter))]
 fn read_external<'a>(alloc: Global, input: &'a [Token]) -> Result<(External, &'a [Token]), Stop>
     requires tokens { length input.now < 4294967296 }
     ensures found { IfOk result (λ p. Finds reads_external input.now (Some (external_shape p.0, p.1.now))) }

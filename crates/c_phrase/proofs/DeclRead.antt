@@ -2,28 +2,28 @@
 use Rattle.std.proofs.Common.{◌≡◌, ℕ, suc, ◌+◌, ◌<◌, List, [], ◌∷◌, ◌++◌, length, Option, Some, None, Bool, true, false, refl, sym, ap, ◌∙◌, subst, arith, append_assoc, append-nil}
 use Rattle.std.specs.Prelude.{max}
 use Rattle.atac_base.specs.declared.place.Pos.{Pos}
-use Rattle.c_tree.specs.declared.token.Mark.TheVariants as marks
-use Rattle.c_tree.specs.declared.token.Token.{Token}
-use Rattle.c_tree.specs.declared.tree.Star.{Star}
-use Rattle.c_tree.specs.declared.tree.Named.{Named}
-use Rattle.c_tree.specs.declared.tree.Decl.{Decl}
-use Rattle.c_tree.specs.declared.tree.Declarator.{Declarator}
-use Rattle.c_tree.specs.declared.tree.Param.{Param}
-use Rattle.c_tree.specs.declared.tree.Init.{Init}
-use Rattle.c_tree.specs.Forms.{place}
-use Rattle.c_tree.specs.Shape.{NodeShape, LengthShapes, SpecShapes, DeclShape, decl, DeclShapes, DeclaratorShape, declarator, no_declarators, more_declarators, DeclFormShape, arrays, function, ParamsShape, empty, void, params, no_init, one_init, InitShape, one, listed, InitShapes}
-use Rattle.c_tree.specs.Shaped.{Standing, in_params, name_fits, may_be_open, is_in_names, may_begin}
-use Rattle.c_tree.specs.View.{decl_shape, decl_list, declarator_shape, declarator_list, param_shape, param_list, init_shape, init_list}
-use Rattle.c_tree.specs.Levels.{lengths_height, specs_height, decls_height, decl_height, declarators_height, declarator_height, behind_height, params_height, init_height, inits_height}
-use Rattle.c_phrase.specs.declared.size.Size.{Size}
-use Rattle.c_phrase.specs.Look.{Got, got, then_go, where_true, Finds, after, is_spec, spec_head}
-use Rattle.c_phrase.specs.Reader.{maybe_named, declarator_behind, declarator_init, declarator_name, void_ahead, listed_end, further, behinds, reads, reads_lengths, reads_stars, reads_specs, reads_some, reads_decl, reads_decls, reads_declarator, reads_declarators, reads_param, reads_parameters, reads_init}
-use Rattle.c_phrase.specs.Parts.{behind, ending, declaring, params_of, inits_of}
-use Rattle.c_phrase.specs.Found.{NodeFound, Found, FurtherFound, named_behind}
-use Rattle.c_phrase.proofs.Looking.{find_from}
-use Rattle.c_phrase.proofs.ExprSteps.{low_go}
-use Rattle.c_phrase.proofs.DeclSteps.{behind_arrays, behind_arrays_fail, behind_params, behind_params_fail, ending_plain, ending_init, ending_fails, declarator_stars_fail, declaring_found, declaring_open, decl_plain, decl_fieldless, decl_found, decl_first_fails, param_found, param_first_fails, params_empty, params_void, params_listed, params_open, init_one, init_one_fails, init_listed, listed_comma, listed_comma_open, listed_plain, listed_open}
-use Rattle.c_phrase.proofs.ListSteps.{DeclsFrom, decls_more, decls_done, decls_now, DeclaratorsFrom, declarators_start, declarators_more, declarators_done, declarators_failed, declarators_now, ParamsFrom, params_start, params_more, params_done, params_now, InitsFrom, inits_start, inits_more, inits_done, inits_now}
+use Rattle.c_syntax.specs.declared.token.Mark.TheVariants as marks
+use Rattle.c_syntax.specs.declared.token.Token.{Token}
+use Rattle.c_syntax.specs.declared.tree.Star.{Star}
+use Rattle.c_syntax.specs.declared.tree.Named.{Named}
+use Rattle.c_syntax.specs.declared.tree.Decl.{Decl}
+use Rattle.c_syntax.specs.declared.tree.Declarator.{Declarator}
+use Rattle.c_syntax.specs.declared.tree.Param.{Param}
+use Rattle.c_syntax.specs.declared.tree.Init.{Init}
+use Rattle.c_syntax.specs.Forms.{place}
+use Rattle.c_syntax.specs.Shape.{NodeShape, LengthShapes, SpecShapes, DeclShape, decl, DeclShapes, DeclaratorShape, declarator, no_declarators, more_declarators, DeclFormShape, arrays, function, ParamsShape, empty, void, params, no_init, one_init, InitShape, one, listed, InitShapes}
+use Rattle.c_syntax.specs.Shaped.{Standing, in_params, name_fits, may_be_open, is_in_names, may_begin}
+use Rattle.c_syntax.specs.View.{decl_shape, decl_list, declarator_shape, declarator_list, param_shape, param_list, init_shape, init_list}
+use Rattle.c_syntax.specs.Levels.{lengths_height, specs_height, decls_height, decl_height, declarators_height, declarator_height, behind_height, params_height, init_height, inits_height}
+use Rattle.c_grammar.specs.declared.size.Size.{Size}
+use Rattle.c_grammar.specs.Look.{Got, got, then_go, where_true, Finds, after, is_spec, spec_head}
+use Rattle.c_grammar.specs.Reader.{maybe_named, declarator_behind, declarator_init, declarator_name, void_ahead, listed_end, further, behinds, reads, reads_lengths, reads_stars, reads_specs, reads_some, reads_decl, reads_decls, reads_declarator, reads_declarators, reads_param, reads_parameters, reads_init}
+use Rattle.c_grammar.specs.Parts.{behind, ending, declaring, params_of, inits_of}
+use Rattle.c_grammar.specs.Found.{NodeFound, Found, FurtherFound, named_behind}
+use Rattle.c_grammar.proofs.Looking.{find_from}
+use Rattle.c_grammar.proofs.ExprSteps.{low_go}
+use Rattle.c_grammar.proofs.DeclSteps.{behind_arrays, behind_arrays_fail, behind_params, behind_params_fail, ending_plain, ending_init, ending_fails, declarator_stars_fail, declaring_found, declaring_open, decl_plain, decl_fieldless, decl_found, decl_first_fails, param_found, param_first_fails, params_empty, params_void, params_listed, params_open, init_one, init_one_fails, init_listed, listed_comma, listed_comma_open, listed_plain, listed_open}
+use Rattle.c_grammar.proofs.ListSteps.{DeclsFrom, decls_more, decls_done, decls_now, DeclaratorsFrom, declarators_start, declarators_more, declarators_done, declarators_failed, declarators_now, ParamsFrom, params_start, params_more, params_done, params_now, InitsFrom, inits_start, inits_more, inits_done, inits_now}
 
 found_as : {A : Type 0} (f : ℕ → List Token → Got A) (levels_of : A → ℕ) (ts : List Token) (a c : A) (h : ℕ) (y : List Token) → c ≡ a → Finds f ts (got a y) → h ≡ levels_of a → Found f levels_of ts c h y
 found_as f levels_of ts a c h y same p l = record { finds = subst (λ x. Finds f ts (got x y)) (sym same) p; levels = l ∙ ap levels_of (sym same) }
@@ -221,18 +221,6 @@ one_read d e g v a c s ts x low m f same alike q =
 
 pub one_unread : (d e g : ℕ) (ts : List Token) → d < 400 → after marks.LeftBrace ts ≡ None → Finds (reads 1 e g) ts None → e ≡ d + 1 → Finds (reads_init d g) ts None
 one_unread d e g ts low m p same = init_one_fails d g ts low m (subst (λ e. Finds (reads 1 e g) ts None) (below e d same) p)
-
-pub end_comma : (ts r x : List Token) → after marks.Comma ts ≡ Some r → after marks.RightBrace r ≡ Some x → (p : Pos) (l : InitShapes) → listed_end p l ts ≡ Some (listed p l true, x)
-end_comma ts r x e c p l = listed_comma p l ts r x e c
-
-pub end_comma_open : (ts r : List Token) → after marks.Comma ts ≡ Some r → after marks.RightBrace r ≡ None → (p : Pos) (l : InitShapes) → listed_end p l ts ≡ None
-end_comma_open ts r e c p l = listed_comma_open p l ts r e c
-
-pub end_plain : (ts x : List Token) → after marks.Comma ts ≡ None → after marks.RightBrace ts ≡ Some x → (p : Pos) (l : InitShapes) → listed_end p l ts ≡ Some (listed p l false, x)
-end_plain ts x e c p l = listed_plain p l ts x e c
-
-pub end_open : (ts : List Token) → after marks.Comma ts ≡ None → after marks.RightBrace ts ≡ None → (p : Pos) (l : InitShapes) → listed_end p l ts ≡ None
-end_open ts e c p l = listed_open p l ts e c
 
 pub list_read : (d g h v : ℕ) (l : InitShapes) (b : Bool) (c : InitShape) (ts r x y : List Token) → d < 400 → after marks.LeftBrace ts ≡ Some r → Found (inits_of d g) inits_height r l h x → ((p : Pos) (l : InitShapes) → listed_end p l x ≡ Some (listed p l b, y)) → c ≡ listed (place ts) l b → v ≡ h + 1 → Found (reads_init d g) init_height ts c v y
 list_read d g h v l b c ts r x y low m f e alike q = found_as (reads_init d g) init_height ts (listed (place ts) l b) c v y alike (init_listed d g l ts r x (got (listed (place ts) l b) y) low m f.finds (e (place ts) l)) (omega (arith, q, f.levels))

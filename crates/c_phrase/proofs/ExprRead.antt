@@ -2,24 +2,24 @@
 use Rattle.std.proofs.Common.{arith, ◌≡◌, ℕ, suc, ◌+◌, ◌≤◌, ◌<◌, List, [], ◌∷◌, ◌++◌, Option, Some, None, Bool, true, false, refl, sym, ap, ◌∙◌, subst}
 use Rattle.std.specs.Prelude.{max}
 use Rattle.atac_base.specs.declared.place.Pos.{Pos}
-use Rattle.c_tree.specs.declared.text.Text.{Text}
-use Rattle.c_tree.specs.declared.token.Mark.{Mark}
-use Rattle.c_tree.specs.declared.token.Mark.TheVariants as marks
-use Rattle.c_tree.specs.declared.token.Token.{Token}
-use Rattle.c_tree.specs.declared.tree.Node.{Node}
-use Rattle.c_tree.specs.Forms.{place}
-use Rattle.c_tree.specs.Shape.{bare, number, char, str, name, Step, Prefix, unary, before, size_of, Infix, Access, Probing, NodeShape, node, leaf, paren, call, prefix, size_of_type, cast, suffix, two, choose, probe, index, field, behind, ProbeShape, simple, select, NodeShapes, no_nodes, TypeShape}
-use Rattle.c_tree.specs.View.{node_shape, node_list}
-use Rattle.c_tree.specs.Levels.{height, nodes_height, type_height, chain, nodes_chain, cases_height, cases_chain}
-use Rattle.c_tree.specs.Shaped.{right_least, prefix_least, probe_least, level}
-use Rattle.c_phrase.specs.declared.size.Size.{Size}
-use Rattle.c_phrase.specs.Look.{Got, got, then_go, Finds, after, a_word, Oper, infix_oper, question, bracket, access, step, open_paren, Sign, a_sign, no_sign, sign, at_leaf, at_prefix, at_paren, at_simple, at_select, start, type_ahead}
-use Rattle.c_phrase.specs.Reader.{place_of, leaf_at, type_behind, numbered, takes, choose_on, choose_from, index_on, paren_at, below, reads_type, reads, climbs, reads_led, fronts}
-use Rattle.c_phrase.specs.Parts.{closed, grown, whole, arguments, typed, probed, constants, listing, LedFrom}
-use Rattle.c_phrase.specs.Found.{Measured, NodeFound, Found, AllMeasured, LedFound, LedFails, CasesMeasured, CasesFound}
-use Rattle.c_phrase.proofs.ExprSteps.{by_paren, front_select_open, then_found, then_fails, closed_found, closed_fails, closed_open, climb_on, climb_fails, climb_high, climb_end, climb_stop, read_on, read_fails, read_loose, read_deep, grow_infix, grow_infix_fails, grow_choose, grow_choose_fails, grow_choose_open, grow_choose_last, grow_index, grow_index_fails, grow_field, grow_field_fails, grow_step, grow_paren, arguments_none, arguments_some, arguments_fail, arguments_open, front_none, front_number, front_char, front_str, front_name, front_call, front_call_fails, front_prefix, front_prefix_fails, front_size, front_size_fails, front_paren, front_paren_fails, front_cast, front_cast_fails, front_cast_last, probed_found, probed_many, probed_fails, probed_open, front_simple, front_select}
-use Rattle.c_phrase.proofs.ListSteps.{led_start, listing_start, led_more, led_done, led_failed, nodes_now, chains_now}
-use Rattle.c_phrase.proofs.CodeSteps.{listing_fails, typed_found, typed_fails, typed_open}
+use Rattle.c_syntax.specs.declared.text.Text.{Text}
+use Rattle.c_syntax.specs.declared.token.Mark.{Mark}
+use Rattle.c_syntax.specs.declared.token.Mark.TheVariants as marks
+use Rattle.c_syntax.specs.declared.token.Token.{Token}
+use Rattle.c_syntax.specs.declared.tree.Node.{Node}
+use Rattle.c_syntax.specs.Forms.{place}
+use Rattle.c_syntax.specs.Shape.{bare, number, char, str, name, Step, Prefix, unary, before, size_of, Infix, Access, Probing, NodeShape, node, leaf, paren, call, prefix, size_of_type, cast, suffix, two, choose, probe, index, field, behind, ProbeShape, simple, select, NodeShapes, no_nodes, TypeShape}
+use Rattle.c_syntax.specs.View.{node_shape, node_list}
+use Rattle.c_syntax.specs.Levels.{height, nodes_height, type_height, chain, nodes_chain, cases_height, cases_chain}
+use Rattle.c_syntax.specs.Shaped.{right_least, prefix_least, probe_least, level}
+use Rattle.c_grammar.specs.declared.size.Size.{Size}
+use Rattle.c_grammar.specs.Look.{Got, got, then_go, Finds, after, a_word, Oper, infix_oper, question, bracket, access, step, open_paren, Sign, a_sign, no_sign, sign, at_leaf, at_prefix, at_paren, at_simple, at_select, start, type_ahead}
+use Rattle.c_grammar.specs.Reader.{place_of, leaf_at, type_behind, numbered, takes, choose_on, choose_from, index_on, paren_at, below, reads_type, reads, climbs, reads_led, fronts}
+use Rattle.c_grammar.specs.Parts.{closed, grown, whole, arguments, typed, probed, constants, listing, LedFrom}
+use Rattle.c_grammar.specs.Found.{Measured, NodeFound, Found, AllMeasured, LedFound, LedFails, CasesMeasured, CasesFound}
+use Rattle.c_grammar.proofs.ExprSteps.{by_paren, front_select_open, then_found, then_fails, closed_found, closed_fails, closed_open, climb_on, climb_fails, climb_high, climb_end, climb_stop, read_on, read_fails, read_loose, read_deep, grow_infix, grow_infix_fails, grow_choose, grow_choose_fails, grow_choose_open, grow_choose_last, grow_index, grow_index_fails, grow_field, grow_field_fails, grow_step, grow_paren, arguments_none, arguments_some, arguments_fail, arguments_open, front_none, front_number, front_char, front_str, front_name, front_call, front_call_fails, front_prefix, front_prefix_fails, front_size, front_size_fails, front_paren, front_paren_fails, front_cast, front_cast_fails, front_cast_last, probed_found, probed_many, probed_fails, probed_open, front_simple, front_select}
+use Rattle.c_grammar.proofs.ListSteps.{led_start, listing_start, led_more, led_done, led_failed, nodes_now, chains_now}
+use Rattle.c_grammar.proofs.CodeSteps.{listing_fails, typed_found, typed_fails, typed_open}
 
 -- LEVELS
 

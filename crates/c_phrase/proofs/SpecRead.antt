@@ -1,34 +1,34 @@
 -- What the code of type names and specifiers reads, and how many levels it has: one step for each way that reading goes.
 use Rattle.std.proofs.Common.{◌≡◌, ℕ, suc, ◌+◌, ◌≤◌, ◌<◌, List, [], ◌∷◌, ◌++◌, length, Option, Some, None, Bool, true, false, refl, sym, ap, ◌∙◌, subst, arith}
 use Rattle.std.specs.Prelude.{max, nat_lt}
-use Rattle.c_tree.specs.declared.text.Text.{Text}
-use Rattle.c_tree.specs.declared.token.Key.{Key}
-use Rattle.c_tree.specs.declared.token.Mark.TheVariants as marks
-use Rattle.c_tree.specs.declared.token.Token.{Token}
-use Rattle.c_tree.specs.declared.tree.Star.{Star}
-use Rattle.c_tree.specs.declared.tree.Named.{Named}
-use Rattle.c_tree.specs.declared.tree.Node.{Node}
-use Rattle.c_tree.specs.declared.tree.Spec.{Spec}
-use Rattle.c_tree.specs.declared.tree.Enumer.{Enumer, out-Enumer}
-use Rattle.c_tree.specs.Forms.{place}
-use Rattle.c_tree.specs.Shape.{NodeShape, MaybeNode, no_node, one_node, LengthShapes, TypeShape, type_name, SpecShapes, SpecShape, word, struct, enum, no_members, members, no_rows, rows, EnumerShapes, DeclShapes}
-use Rattle.c_tree.specs.Shaped.{in_members, is_there}
-use Rattle.c_tree.specs.View.{node_shape, maybe_node, lengths_list, type_lengths_list, spec_shape, spec_list, enumer_list}
-use Rattle.c_tree.specs.Levels.{maybe_height, lengths_height, type_height, specs_height, spec_height, enumers_height, decls_height}
-use Rattle.c_phrase.specs.declared.size.Size.{Size}
-use Rattle.c_phrase.specs.declared.look.SpecStart.{SpecStart}
-use Rattle.c_phrase.specs.declared.look.SpecStart.TheVariants as spec_starts
-use Rattle.c_phrase.specs.CodeView.{spec_start_of}
-use Rattle.c_phrase.specs.Look.{Got, got, then_go, either_way, where_true, Finds, expect, after, a_word, no_spec, spec_head, is_spec}
-use Rattle.c_phrase.specs.Reader.{one_got, tag, plain_name, struct_made, struct_list, struct_tag, enum_made, enum_list, enum_tag, lists, reads, reads_lengths, reads_stars, reads_specs, reads_some, reads_type, reads_decls, reads_enumers}
-use Rattle.c_phrase.specs.Parts.{closed, one_length, structure, enumeration, fields, enumerators, value}
-use Rattle.c_phrase.specs.Found.{NodeFound, Found, spec_behind, braced_fields, EnumerFound}
-use Rattle.c_phrase.proofs.Looking.{got_eq}
-use Rattle.c_phrase.proofs.ExprSteps.{low_go, high_none, closed_found, closed_fails, closed_open}
-use Rattle.c_phrase.proofs.DeclSteps.{length_none, length_there, length_fails, length_open, type_found, type_stars_fail, type_lengths_fail, some_found, struct_plain, enum_plain, value_none, value_some}
-use Rattle.c_phrase.proofs.Leading.{leads_fail}
-use Rattle.c_phrase.proofs.ListSteps.{LengthsFrom, TypeLengthsFrom, SpecsFrom, EnumersFrom, lengths_done, type_lengths_done, lengths_now, type_lengths_now, specs_more_word, specs_more_struct, specs_more_enum, specs_done, specs_struct_failed, specs_enum_failed, specs_now, enumers_start, enumers_comma, enumers_more, enumers_done, enumers_now}
-use Rattle.c_phrase.proofs.CodeSteps.{lengths_next, type_lengths_next}
+use Rattle.c_syntax.specs.declared.text.Text.{Text}
+use Rattle.c_syntax.specs.declared.token.Key.{Key}
+use Rattle.c_syntax.specs.declared.token.Mark.TheVariants as marks
+use Rattle.c_syntax.specs.declared.token.Token.{Token}
+use Rattle.c_syntax.specs.declared.tree.Star.{Star}
+use Rattle.c_syntax.specs.declared.tree.Named.{Named}
+use Rattle.c_syntax.specs.declared.tree.Node.{Node}
+use Rattle.c_syntax.specs.declared.tree.Spec.{Spec}
+use Rattle.c_syntax.specs.declared.tree.Enumer.{Enumer, out-Enumer}
+use Rattle.c_syntax.specs.Forms.{place}
+use Rattle.c_syntax.specs.Shape.{NodeShape, MaybeNode, no_node, one_node, LengthShapes, TypeShape, type_name, SpecShapes, SpecShape, word, struct, enum, no_members, members, no_rows, rows, EnumerShapes, DeclShapes}
+use Rattle.c_syntax.specs.Shaped.{in_members, is_there}
+use Rattle.c_syntax.specs.View.{node_shape, maybe_node, lengths_list, type_lengths_list, spec_shape, spec_list, enumer_list}
+use Rattle.c_syntax.specs.Levels.{maybe_height, lengths_height, type_height, specs_height, spec_height, enumers_height, decls_height}
+use Rattle.c_grammar.specs.declared.size.Size.{Size}
+use Rattle.c_grammar.specs.declared.look.SpecStart.{SpecStart}
+use Rattle.c_grammar.specs.declared.look.SpecStart.TheVariants as spec_starts
+use Rattle.c_grammar.specs.CodeView.{spec_start_of}
+use Rattle.c_grammar.specs.Look.{Got, got, then_go, either_way, where_true, Finds, expect, after, a_word, no_spec, spec_head, is_spec}
+use Rattle.c_grammar.specs.Reader.{one_got, tag, plain_name, struct_made, struct_list, struct_tag, enum_made, enum_list, enum_tag, lists, reads, reads_lengths, reads_stars, reads_specs, reads_some, reads_type, reads_decls, reads_enumers}
+use Rattle.c_grammar.specs.Parts.{closed, one_length, structure, enumeration, fields, enumerators, value}
+use Rattle.c_grammar.specs.Found.{NodeFound, Found, spec_behind, braced_fields, EnumerFound}
+use Rattle.c_grammar.proofs.Looking.{got_eq}
+use Rattle.c_grammar.proofs.ExprSteps.{low_go, high_none, closed_found, closed_fails, closed_open}
+use Rattle.c_grammar.proofs.DeclSteps.{length_none, length_there, length_fails, length_open, type_found, type_stars_fail, type_lengths_fail, some_found, struct_plain, enum_plain, value_none, value_some}
+use Rattle.c_grammar.proofs.Leading.{leads_fail}
+use Rattle.c_grammar.proofs.ListSteps.{LengthsFrom, TypeLengthsFrom, SpecsFrom, EnumersFrom, lengths_done, type_lengths_done, lengths_now, type_lengths_now, specs_more_word, specs_more_struct, specs_more_enum, specs_done, specs_struct_failed, specs_enum_failed, specs_now, enumers_start, enumers_comma, enumers_more, enumers_done, enumers_now}
+use Rattle.c_grammar.proofs.CodeSteps.{lengths_next, type_lengths_next}
 
 found_as : {A : Type 0} (f : ℕ → List Token → Got A) (levels_of : A → ℕ) (ts : List Token) (a c : A) (h : ℕ) (y : List Token) → c ≡ a → Finds f ts (got a y) → h ≡ levels_of a → Found f levels_of ts c h y
 found_as f levels_of ts a c h y same p l = record { finds = subst (λ x. Finds f ts (got x y)) (sym same) p; levels = l ∙ ap levels_of (sym same) }

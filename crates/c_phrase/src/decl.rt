@@ -1,78 +1,31 @@
 ghost use Rattle.std.specs.Prelude.{◌≡◌, ◌+◌, ◌<◌, ◌≤◌, true, max, length, None, Some, IfOk, IsErrOf};
-ghost use Rattle.c_tree.specs.Shaped.{is_in_names, may_be_open, name_fits, may_begin};
-ghost use Rattle.c_tree.specs.Levels.{specs_height, decl_height, decls_height, declarator_height, behind_height, params_height};
-ghost use Rattle.c_tree.specs.View.{spec_list, decl_shape, decl_list, decl_form_shape, declarator_shape, params_shape, param_shape, param_list};
-ghost use Rattle.c_phrase.specs.Look.{Finds, after};
-ghost use Rattle.c_phrase.specs.Reader.{reads_decl, reads_decls, reads_declarator, reads_declarators, reads_param, reads_parameters};
-ghost use Rattle.c_phrase.specs.Parts.{behind, ending, declaring, params_of};
-ghost use Rattle.c_phrase.specs.CodeView.{standing_of};
-ghost use Rattle.c_phrase.specs.Found.{Found, FurtherFound, named_behind};
+ghost use Rattle.c_syntax.specs.Levels.{specs_height, decl_height, decls_height, declarator_height, behind_height, params_height};
+ghost use Rattle.c_syntax.specs.View.{spec_list, decl_shape, decl_list, decl_form_shape, declarator_shape, params_shape, param_shape, param_list};
+ghost use Rattle.c_grammar.specs.Look.{Finds, after};
+ghost use Rattle.c_grammar.specs.Reader.{reads_decl, reads_decls, reads_declarator, reads_declarators, reads_param, reads_parameters};
+ghost use Rattle.c_grammar.specs.Parts.{behind, ending, declaring, params_of};
+ghost use Rattle.c_grammar.specs.CodeView.{standing_of};
+ghost use Rattle.c_grammar.specs.Found.{Found, FurtherFound, named_behind};
 
-use crate::build::{
+use crate::init::read_init;
+use crate::spec::{read_lengths, read_specifiers, read_specs};
+use atac_base::place::Pos;
+use c_grammar::allow::{among_names, is_begun, is_fit, is_free};
+use c_grammar::build::{
     bare_decl, bare_declarator, new_arrays, new_decl, new_declarator, new_function, new_param,
     new_params, star_count,
 };
-use crate::init::read_init;
-use crate::look::{MOST_LEVELS, Standing, Stop, at_spec, first_place, past, past_void};
-use crate::nodes::put;
-use crate::size::higher;
-use crate::spec::{read_lengths, read_specifiers, read_specs};
-use crate::stars::{read_named, read_stars};
-use atac_base::place::Pos;
-use c_tree::token::{Mark, Token};
-use c_tree::tree::{Decl, DeclForm, Declarator, Named, Param, Params, Spec, Star};
+use c_grammar::look::{MOST_LEVELS, Standing, Stop, at_spec, first_place, past, past_void};
+use c_grammar::nodes::put;
+use c_grammar::size::higher;
+use c_grammar::stars::{read_named, read_stars};
+use c_syntax::token::{Mark, Token};
+use c_syntax::tree::{Decl, DeclForm, Declarator, Named, Param, Params, Spec, Star};
 use std::alloc::Global;
-
-// Functions may be declared here, and declarations may have no declarator.
-fn among_names(standing: Standing) -> bool
-    ensures { result ≡ is_in_names (standing_of standing) }
-{
-    match standing {
-        Standing::Names => true,
-        Standing::Members | Standing::Params => false,
-    }
-}
-
-// An array's length may be left out here.
-fn is_free(standing: Standing) -> bool
-    ensures { result ≡ may_be_open (standing_of standing) }
-{
-    match standing {
-        Standing::Members => false,
-        Standing::Names | Standing::Params => true,
-    }
-}
-
-// The name of a declarator here may be this one.
-fn is_fit(standing: Standing, name: &Option<Named>) -> bool
-    ensures { result ≡ name_fits (standing_of standing) name.now }
-{
-    match standing {
-        Standing::Members => match name {
-            Some(named) => named.probe.is_none(),
-            None => false,
-        },
-        Standing::Names => match name {
-            Some(_) => true,
-            None => false,
-        },
-        Standing::Params => true,
-    }
-}
-
-// An initialiser may stand behind a declarator here, behind whose name this stands.
-fn is_begun(standing: Standing, form: &DeclForm) -> bool
-    ensures { result ≡ may_begin (standing_of standing) (decl_form_shape form.now) }
-{
-    match form {
-        DeclForm::Arrays(_) => among_names(standing),
-        DeclForm::Function(_) => false,
-    }
-}
 
 /// A declarator with its initialiser, its levels, and what follows it.
 #[cycle(reading)]
-#[tactic(auto, using(crate::proofs::DeclRead::declarator_read, crate::proofs::DeclRead::declarator_unread, crate::proofs::DeclRead::declarator_starless, crate::proofs::DeclSteps::declarator_deep))]
+#[tactic(auto, using(crate::proofs::DeclRead::declarator_read, crate::proofs::DeclRead::declarator_unread, crate::proofs::DeclRead::declarator_starless, c_grammar::proofs::DeclSteps::declarator_deep))]
 pub fn read_declarator<'a>(
     alloc: Global,
     standing: Standing,
@@ -127,7 +80,7 @@ fn read_named_behind<'a>(
 
 // What stands behind a declared name, with these stars in front of it. The levels are those of stars and brackets.
 #[cycle(reading)]
-#[tactic(auto, using(crate::proofs::DeclRead::function_read, crate::proofs::DeclRead::function_unread, crate::proofs::DeclSteps::behind_no_function))]
+#[tactic(auto, using(crate::proofs::DeclRead::function_read, crate::proofs::DeclRead::function_unread, c_grammar::proofs::DeclSteps::behind_no_function))]
 fn read_form<'a>(
     alloc: Global,
     standing: Standing,
@@ -185,7 +138,7 @@ fn read_arrays<'a>(
 // A declarator from its initialiser on, where it has one; `levels` are those of its stars and of what stands behind its
 // name.
 #[cycle(reading)]
-#[tactic(auto, using(crate::proofs::DeclRead::ending_left_out, crate::proofs::DeclRead::ending_read, crate::proofs::DeclRead::ending_unread, crate::proofs::DeclSteps::ending_no_init))]
+#[tactic(auto, using(crate::proofs::DeclRead::ending_left_out, crate::proofs::DeclRead::ending_read, crate::proofs::DeclRead::ending_unread, c_grammar::proofs::DeclSteps::ending_no_init))]
 fn read_ending<'a>(
     alloc: Global,
     standing: Standing,
@@ -222,7 +175,7 @@ fn read_ending<'a>(
 
 // The parameters of a function and the closing parenthesis.
 #[cycle(reading)]
-#[tactic(auto, using(crate::proofs::DeclRead::empty_read, crate::proofs::DeclRead::void_read, crate::proofs::DeclRead::parameters_read, crate::proofs::DeclRead::parameters_unclosed, crate::proofs::DeclSteps::params_list_fails))]
+#[tactic(auto, using(crate::proofs::DeclRead::empty_read, crate::proofs::DeclRead::void_read, crate::proofs::DeclRead::parameters_read, crate::proofs::DeclRead::parameters_unclosed, c_grammar::proofs::DeclSteps::params_list_fails))]
 fn read_parameters<'a>(
     alloc: Global,
     depth: u32,
@@ -252,7 +205,7 @@ fn read_parameters<'a>(
 
 // Parameters with a comma between two of them.
 #[cycle(reading)]
-#[tactic(auto, using(crate::proofs::DeclRead::params_first, crate::proofs::DeclRead::params_first_measured, crate::proofs::DeclRead::params_further, crate::proofs::DeclRead::params_measured, crate::proofs::DeclRead::params_read, crate::proofs::DeclSteps::param_list_fails, crate::proofs::ListSteps::params_failed))]
+#[tactic(auto, using(crate::proofs::DeclRead::params_first, crate::proofs::DeclRead::params_first_measured, crate::proofs::DeclRead::params_further, crate::proofs::DeclRead::params_measured, crate::proofs::DeclRead::params_read, c_grammar::proofs::DeclSteps::param_list_fails, c_grammar::proofs::ListSteps::params_failed))]
 fn read_params<'a>(
     alloc: Global,
     depth: u32,
@@ -283,7 +236,7 @@ fn read_params<'a>(
 
 // A parameter.
 #[cycle(reading)]
-#[tactic(auto, using(crate::proofs::DeclRead::param_read, crate::proofs::DeclRead::param_unread, crate::proofs::DeclSteps::param_fails))]
+#[tactic(auto, using(crate::proofs::DeclRead::param_read, crate::proofs::DeclRead::param_unread, c_grammar::proofs::DeclSteps::param_fails))]
 fn read_param<'a>(
     alloc: Global,
     depth: u32,
@@ -334,7 +287,7 @@ pub fn read_declaring<'a>(
 
 // The same, which reads the semicolon at least.
 #[cycle(reading)]
-#[tactic(auto, using(crate::proofs::DeclRead::declaring_read, crate::proofs::DeclRead::declaring_unclosed, crate::proofs::DeclSteps::declaring_fails))]
+#[tactic(auto, using(crate::proofs::DeclRead::declaring_read, crate::proofs::DeclRead::declaring_unclosed, c_grammar::proofs::DeclSteps::declaring_fails))]
 fn read_names<'a>(
     alloc: Global,
     standing: Standing,
@@ -398,7 +351,7 @@ fn read_further<'a>(
 
 // A declaration, or a line of a member list.
 #[cycle(reading)]
-#[tactic(auto, using(crate::proofs::DeclRead::bare_decl_read, crate::proofs::DeclRead::decl_nameless, crate::proofs::DeclRead::decl_read, crate::proofs::DeclRead::decl_unread, crate::proofs::DeclRead::decl_unended, crate::proofs::DeclRead::declaring_measured, crate::proofs::DeclSteps::decl_fails))]
+#[tactic(auto, using(crate::proofs::DeclRead::bare_decl_read, crate::proofs::DeclRead::decl_nameless, crate::proofs::DeclRead::decl_read, crate::proofs::DeclRead::decl_unread, crate::proofs::DeclRead::decl_unended, crate::proofs::DeclRead::declaring_measured, c_grammar::proofs::DeclSteps::decl_fails))]
 fn read_decl<'a>(
     alloc: Global,
     standing: Standing,
@@ -431,7 +384,7 @@ fn read_decl<'a>(
 
 /// Declarations, or the lines of a member list, their levels, and what follows them.
 #[cycle(reading)]
-#[tactic(auto, using(crate::proofs::ListSteps::decls_start, crate::proofs::DeclRead::decls_further, crate::proofs::DeclRead::decls_measured, crate::proofs::DeclRead::decls_read, crate::proofs::ListSteps::decls_failed))]
+#[tactic(auto, using(c_grammar::proofs::ListSteps::decls_start, crate::proofs::DeclRead::decls_further, crate::proofs::DeclRead::decls_measured, crate::proofs::DeclRead::decls_read, c_grammar::proofs::ListSteps::decls_failed))]
 pub fn read_decls<'a>(
     alloc: Global,
     standing: Standing,

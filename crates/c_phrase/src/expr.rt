@@ -1,35 +1,35 @@
 ghost use Rattle.std.specs.Prelude.{◌≡◌, ℕ, suc, ◌+◌, ◌<◌, ◌≤◌, List, length, true, Some, None, IfOk, IsErrOf, MatchOption};
-ghost use Rattle.c_tree.specs.Shape.{name};
-ghost use Rattle.c_tree.specs.Levels.{height, cases_height, cases_chain, nodes_height, type_height};
-ghost use Rattle.c_tree.specs.View.{node_shape, node_list, probe_shape, type_shape};
-ghost use Rattle.c_phrase.specs.Look.{Finds, infix_oper, question, bracket, access, step, sign, a_sign, start, at_leaf, at_prefix, at_paren, at_simple, at_select, type_ahead};
-ghost use Rattle.c_phrase.specs.Reader.{takes, reads, climbs, fronts, type_behind};
-ghost use Rattle.c_phrase.specs.Parts.{closed, grown, whole, arguments, typed, probed, constants};
-ghost use Rattle.c_phrase.specs.Found.{Measured, NodeFound, Found, AllMeasured, LedFound, LedFails, CasesMeasured, CasesFound};
-ghost use Rattle.c_phrase.specs.CodeView.{oper_of, infix_of, access_of, step_of, prefix_of, probing_of};
+ghost use Rattle.c_syntax.specs.Shape.{name};
+ghost use Rattle.c_syntax.specs.Levels.{height, cases_height, cases_chain, nodes_height, type_height};
+ghost use Rattle.c_syntax.specs.View.{node_shape, node_list, probe_shape, type_shape};
+ghost use Rattle.c_grammar.specs.Look.{Finds, infix_oper, question, bracket, access, step, sign, a_sign, start, at_leaf, at_prefix, at_paren, at_simple, at_select, type_ahead};
+ghost use Rattle.c_grammar.specs.Reader.{takes, reads, climbs, fronts};
+ghost use Rattle.c_grammar.specs.Parts.{closed, grown, whole, arguments, typed, probed, constants};
+ghost use Rattle.c_grammar.specs.Found.{Measured, NodeFound, Found, AllMeasured, LedFound, LedFails, CasesMeasured, CasesFound};
+ghost use Rattle.c_grammar.specs.CodeView.{oper_of, infix_of, access_of, step_of, prefix_of, probing_of};
 
-use crate::levels::{is_taken, level_of, prefix_bound, probe_bound, right_bound};
-use crate::look::{
+use crate::spec::read_type_name;
+use atac_base::place::Pos;
+use c_grammar::levels::{is_taken, level_of, prefix_bound, probe_bound, right_bound};
+use c_grammar::look::{
     Access, Infix, MOST_LEVELS, MOST_PROBES, Operator, Prefix, Probing, Start, Step, Stop,
-    find_numbered, find_operator, find_start, find_word, first_place, past, past_type,
+    find_numbered, find_operator, find_start, find_word, first_place, past, past_size, past_type,
 };
-use crate::nodes::{
+use c_grammar::nodes::{
     call_node, cast_node, char_node, choice_node, field_node, index_node, infix_node, name_node,
     number_node, paren_node, prefix_node, probe_node, put, select_probe, simple_probe, size_node,
     step_node, string_node,
 };
-use crate::size::{Size, above, around, higher};
-use crate::spec::read_type_name;
-use atac_base::place::Pos;
-use c_tree::text::Text;
-use c_tree::token::{Mark, Token};
-use c_tree::tree::{ExprProbe, Node, TypeName};
+use c_grammar::size::{Size, above, around, higher};
+use c_syntax::text::Text;
+use c_syntax::token::{Mark, Token};
+use c_syntax::tree::{ExprProbe, Node, TypeName};
 use std::alloc::Global;
 
 /// An expression that binds at least as tightly as `least`, how deep it is, and what follows it. There are `depth`
 /// levels above it, and `probes` probes round it.
 #[cycle(reading)]
-#[tactic(auto, using(crate::proofs::ExprRead::node_read, crate::proofs::ExprRead::node_frontless, crate::proofs::ExprRead::node_loose, crate::proofs::ExprRead::node_unended, crate::proofs::ExprSteps::read_deep))]
+#[tactic(auto, using(crate::proofs::ExprRead::node_read, crate::proofs::ExprRead::node_frontless, crate::proofs::ExprRead::node_loose, crate::proofs::ExprRead::node_unended, c_grammar::proofs::ExprSteps::read_deep))]
 pub fn read_node<'a>(
     alloc: Global,
     least: u8,
@@ -117,7 +117,7 @@ fn climb<'a>(
 
 // The expression so far, of so many levels, with one operator more.
 #[cycle(reading)]
-#[tactic(auto, using(crate::proofs::ExprSteps::grow_paren))]
+#[tactic(auto, using(c_grammar::proofs::ExprSteps::grow_paren))]
 fn grow<'a>(
     alloc: Global,
     depth: u32,
@@ -226,7 +226,7 @@ fn grow_index<'a>(
     Ok((index_node(alloc, op_pos, left, inner)?, all, rest))
 }
 
-#[tactic(auto, using(crate::proofs::ExprRead::field_read, crate::proofs::ExprSteps::grow_field_fails))]
+#[tactic(auto, using(crate::proofs::ExprRead::field_read, c_grammar::proofs::ExprSteps::grow_field_fails))]
 fn grow_field<'a>(
     alloc: Global,
     depth: u32,
@@ -300,7 +300,7 @@ fn read_closed<'a>(
 
 // An operand: an expression with no operator behind it.
 #[cycle(reading)]
-#[tactic(auto, using(crate::proofs::ExprSteps::front_none, crate::proofs::ExprRead::number_read, crate::proofs::ExprRead::char_read, crate::proofs::ExprRead::string_read))]
+#[tactic(auto, using(c_grammar::proofs::ExprSteps::front_none, crate::proofs::ExprRead::number_read, crate::proofs::ExprRead::char_read, crate::proofs::ExprRead::string_read))]
 fn read_front<'a>(
     alloc: Global,
     depth: u32,
@@ -333,7 +333,7 @@ fn read_front<'a>(
 
 // A name or a call; `behind` is what follows the name.
 #[cycle(reading)]
-#[tactic(auto, using(crate::proofs::ExprRead::name_read, crate::proofs::ExprRead::call_read, crate::proofs::ExprSteps::front_call_fails))]
+#[tactic(auto, using(crate::proofs::ExprRead::name_read, crate::proofs::ExprRead::call_read, c_grammar::proofs::ExprSteps::front_call_fails))]
 fn read_name<'a>(
     alloc: Global,
     depth: u32,
@@ -426,17 +426,6 @@ fn read_led<'a>(
         rest = behind;
     }
     Ok((list, all, rest))
-}
-
-// What stands behind an operator in front of its operand, where this is `sizeof` and a type name in parentheses.
-fn past_size(op: Prefix, behind: &[Token]) -> Option<&[Token]>
-    ensures found { MatchOption result (type_behind (prefix_of op) behind.now ≡ None) (λ r. type_behind (prefix_of op) behind.now ≡ Some r.now) }
-    ensures shorter { MatchOption result (0 ≤ 0) (λ r. length r.now < length behind.now) }
-{
-    match op {
-        Prefix::SizeOf => past_type(behind),
-        Prefix::Unary(_) | Prefix::Before(_) => None,
-    }
 }
 
 // An operator in front of its operand; `behind` is what follows the operator.
@@ -565,7 +554,7 @@ fn read_cast<'a>(
 
 // A probe with no case constants; `behind` is what follows its word.
 #[cycle(reading)]
-#[tactic(auto, using(crate::proofs::ExprRead::simple_measured, crate::proofs::ExprRead::simple_read, crate::proofs::ExprRead::simple_unread, crate::proofs::ExprSteps::front_simple_unnumbered, crate::proofs::ExprSteps::front_simple_alone, crate::proofs::ExprSteps::front_simple_many))]
+#[tactic(auto, using(crate::proofs::ExprRead::simple_measured, crate::proofs::ExprRead::simple_read, crate::proofs::ExprRead::simple_unread, c_grammar::proofs::ExprSteps::front_simple_unnumbered, c_grammar::proofs::ExprSteps::front_simple_alone, c_grammar::proofs::ExprSteps::front_simple_many))]
 fn read_simple<'a>(
     alloc: Global,
     depth: u32,
@@ -613,7 +602,7 @@ fn read_simple<'a>(
 
 // The probe of a `switch`; `behind` is what follows its word.
 #[cycle(reading)]
-#[tactic(auto, using(crate::proofs::ExprRead::select_measured, crate::proofs::ExprRead::select_read, crate::proofs::ExprRead::select_unread, crate::proofs::ExprRead::select_unended, crate::proofs::ExprSteps::front_select_fails, crate::proofs::ExprSteps::front_select_unnumbered, crate::proofs::ExprSteps::front_select_many))]
+#[tactic(auto, using(crate::proofs::ExprRead::select_measured, crate::proofs::ExprRead::select_read, crate::proofs::ExprRead::select_unread, crate::proofs::ExprRead::select_unended, c_grammar::proofs::ExprSteps::front_select_fails, c_grammar::proofs::ExprSteps::front_select_unnumbered, c_grammar::proofs::ExprSteps::front_select_many))]
 fn read_select<'a>(
     alloc: Global,
     depth: u32,

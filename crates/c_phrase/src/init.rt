@@ -1,25 +1,23 @@
-ghost use Rattle.std.specs.Prelude.{◌≡◌, ◌+◌, ◌<◌, ◌≤◌, length, None, Some, IfOk, IsErrOf, MatchOption};
-ghost use Rattle.atac_base.specs.declared.place.Pos.{Pos};
-ghost use Rattle.c_tree.specs.Shape.{InitShapes, listed};
-ghost use Rattle.c_tree.specs.Levels.{init_height, inits_height};
-ghost use Rattle.c_tree.specs.View.{init_shape, init_list};
-ghost use Rattle.c_phrase.specs.Look.{Finds, after};
-ghost use Rattle.c_phrase.specs.Reader.{listed_end, reads_init};
-ghost use Rattle.c_phrase.specs.Parts.{inits_of};
-ghost use Rattle.c_phrase.specs.Found.{Found};
+ghost use Rattle.std.specs.Prelude.{◌≡◌, ◌+◌, ◌<◌, ◌≤◌, length, IfOk, IsErrOf};
+ghost use Rattle.c_syntax.specs.Levels.{init_height, inits_height};
+ghost use Rattle.c_syntax.specs.View.{init_shape, init_list};
+ghost use Rattle.c_grammar.specs.Look.{Finds, after};
+ghost use Rattle.c_grammar.specs.Reader.{reads_init};
+ghost use Rattle.c_grammar.specs.Parts.{inits_of};
+ghost use Rattle.c_grammar.specs.Found.{Found};
 
-use crate::build::{new_list, single_init};
 use crate::expr::read_node;
-use crate::look::{MOST_LEVELS, Stop, first_place, past, past_further};
-use crate::nodes::put;
-use crate::size::higher;
-use c_tree::token::{Mark, Token};
-use c_tree::tree::Init;
+use c_grammar::build::{new_list, single_init};
+use c_grammar::look::{MOST_LEVELS, Stop, first_place, past, past_further, past_list};
+use c_grammar::nodes::put;
+use c_grammar::size::higher;
+use c_syntax::token::{Mark, Token};
+use c_syntax::tree::Init;
 use std::alloc::Global;
 
 /// An initialiser, its levels, and what follows it. There are `depth` levels above it, and `probes` probes round it.
 #[cycle(reading)]
-#[tactic(auto, using(crate::proofs::DeclRead::one_read, crate::proofs::DeclRead::one_unread, crate::proofs::DeclSteps::init_deep))]
+#[tactic(auto, using(crate::proofs::DeclRead::one_read, crate::proofs::DeclRead::one_unread, c_grammar::proofs::DeclSteps::init_deep))]
 pub fn read_init<'a>(
     alloc: Global,
     depth: u32,
@@ -48,7 +46,7 @@ pub fn read_init<'a>(
 
 // A list in braces; `inside` is what follows its brace.
 #[cycle(reading)]
-#[tactic(auto, using(crate::proofs::DeclRead::list_read, crate::proofs::DeclRead::list_unclosed, crate::proofs::DeclSteps::init_list_fails))]
+#[tactic(auto, using(crate::proofs::DeclRead::list_read, crate::proofs::DeclRead::list_unclosed, c_grammar::proofs::DeclSteps::init_list_fails))]
 fn read_braced<'a>(
     alloc: Global,
     depth: u32,
@@ -73,21 +71,9 @@ fn read_braced<'a>(
     }
 }
 
-// What follows the closing brace of a list, and whether a comma stands before it.
-#[tactic(auto, using(crate::proofs::DeclRead::end_comma, crate::proofs::DeclRead::end_comma_open, crate::proofs::DeclRead::end_plain, crate::proofs::DeclRead::end_open))]
-fn past_list(input: &[Token]) -> Option<(bool, &[Token])>
-    ensures found { MatchOption result ((p : Pos) (l : InitShapes) → listed_end p l input.now ≡ None) (λ r. (p : Pos) (l : InitShapes) → listed_end p l input.now ≡ Some (listed p l r.0, r.1.now)) }
-    ensures shorter { MatchOption result (0 ≤ 0) (λ r. length r.1.now < length input.now) }
-{
-    match past(input, Mark::Comma) {
-        Some(behind) => Some((true, past(behind, Mark::RightBrace)?)),
-        None => Some((false, past(input, Mark::RightBrace)?)),
-    }
-}
-
 // The initialisers of a list, one level below it, with a comma between two of them.
 #[cycle(reading)]
-#[tactic(auto, using(crate::proofs::DeclRead::inits_first, crate::proofs::DeclRead::inits_first_measured, crate::proofs::DeclRead::inits_further, crate::proofs::DeclRead::inits_measured, crate::proofs::DeclRead::inits_read, crate::proofs::DeclSteps::list_fails, crate::proofs::ListSteps::inits_failed))]
+#[tactic(auto, using(crate::proofs::DeclRead::inits_first, crate::proofs::DeclRead::inits_first_measured, crate::proofs::DeclRead::inits_further, crate::proofs::DeclRead::inits_measured, crate::proofs::DeclRead::inits_read, c_grammar::proofs::DeclSteps::list_fails, c_grammar::proofs::ListSteps::inits_failed))]
 fn read_inits<'a>(
     alloc: Global,
     depth: u32,

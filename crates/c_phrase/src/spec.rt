@@ -1,26 +1,26 @@
 ghost use Rattle.std.specs.Prelude.{◌≡◌, ◌+◌, ◌<◌, ◌≤◌, length, false, None, Some, IfOk, IsErrOf};
-ghost use Rattle.c_tree.specs.Shape.{one_node};
-ghost use Rattle.c_tree.specs.Levels.{maybe_height, lengths_height, type_height, specs_height, spec_height, enumers_height, decls_height};
-ghost use Rattle.c_tree.specs.Shaped.{is_there};
-ghost use Rattle.c_tree.specs.View.{node_shape, maybe_node, lengths_list, type_lengths_list, type_shape, spec_shape, spec_list, enumer_list, decl_list};
-ghost use Rattle.c_phrase.specs.Look.{Finds, after};
-ghost use Rattle.c_phrase.specs.Reader.{reads_lengths, reads_specs, reads_some, reads_type};
-ghost use Rattle.c_phrase.specs.Parts.{closed, one_length, structure, enumeration, enumerators, value};
-ghost use Rattle.c_phrase.specs.Found.{Found, spec_behind, braced_fields, EnumerFound};
+ghost use Rattle.c_syntax.specs.Shape.{one_node};
+ghost use Rattle.c_syntax.specs.Levels.{maybe_height, lengths_height, type_height, specs_height, spec_height, enumers_height, decls_height};
+ghost use Rattle.c_syntax.specs.View.{node_shape, maybe_node, lengths_list, type_lengths_list, type_shape, spec_shape, spec_list, enumer_list, decl_list};
+ghost use Rattle.c_grammar.specs.Look.{Finds, after};
+ghost use Rattle.c_grammar.specs.Reader.{reads_lengths, reads_specs, reads_some, reads_type};
+ghost use Rattle.c_grammar.specs.Parts.{closed, one_length, structure, enumeration, enumerators, value};
+ghost use Rattle.c_grammar.specs.Found.{Found, spec_behind, braced_fields, EnumerFound};
 
-use crate::build::{
-    bare_enum, bare_struct, new_enum, new_enumer, new_struct, new_type, star_count,
-};
 use crate::decl::read_decls;
 use crate::expr::read_node;
-use crate::look::{
+use c_grammar::allow::has_name;
+use c_grammar::build::{
+    bare_enum, bare_struct, new_enum, new_enumer, new_struct, new_type, star_count,
+};
+use c_grammar::look::{
     MOST_LEVELS, SpecStart, Standing, Stop, at_spec, find_spec, find_word, first_place, past,
 };
-use crate::nodes::put;
-use crate::size::higher;
-use crate::stars::{read_stars, read_tag};
-use c_tree::token::{Mark, Token};
-use c_tree::tree::{Decl, Enumer, Named, Node, Spec, SpecForm, TypeName};
+use c_grammar::nodes::put;
+use c_grammar::size::higher;
+use c_grammar::stars::{read_stars, read_tag};
+use c_syntax::token::{Mark, Token};
+use c_syntax::tree::{Decl, Enumer, Named, Node, Spec, SpecForm, TypeName};
 use std::alloc::Global;
 
 // A length that is there, and its closing bracket, one level below what holds the bracket.
@@ -51,7 +51,7 @@ fn read_given<'a>(
 /// A length of a declarator, which may be left out where it is `free`, and its closing bracket, one level below what
 /// holds the bracket.
 #[cycle(reading)]
-#[tactic(auto, using(crate::proofs::SpecRead::length_left_out, crate::proofs::SpecRead::length_given, crate::proofs::SpecRead::length_ungiven, crate::proofs::DeclSteps::length_missing))]
+#[tactic(auto, using(crate::proofs::SpecRead::length_left_out, crate::proofs::SpecRead::length_given, crate::proofs::SpecRead::length_ungiven, c_grammar::proofs::DeclSteps::length_missing))]
 fn read_length<'a>(
     alloc: Global,
     free: bool,
@@ -85,7 +85,7 @@ fn read_length<'a>(
 /// The lengths of a declarator, none or more, each in its brackets and one level below the one before; `depth` levels
 /// are above the first bracket.
 #[cycle(reading)]
-#[tactic(auto, using(crate::proofs::ListSteps::lengths_start, crate::proofs::ListSteps::one_item_more, crate::proofs::SpecRead::lengths_further, crate::proofs::SpecRead::lengths_measured, crate::proofs::SpecRead::lengths_read, crate::proofs::CodeSteps::lengths_stopped, crate::proofs::CodeSteps::lengths_many))]
+#[tactic(auto, using(c_grammar::proofs::ListSteps::lengths_start, c_grammar::proofs::ListSteps::one_item_more, crate::proofs::SpecRead::lengths_further, crate::proofs::SpecRead::lengths_measured, crate::proofs::SpecRead::lengths_read, c_grammar::proofs::CodeSteps::lengths_stopped, c_grammar::proofs::CodeSteps::lengths_many))]
 pub fn read_lengths<'a>(
     alloc: Global,
     free: bool,
@@ -120,7 +120,7 @@ pub fn read_lengths<'a>(
 
 // A length of a type name, and its closing bracket, one level below what holds the bracket.
 #[cycle(reading)]
-#[tactic(auto, using(crate::proofs::DeclSteps::length_missing))]
+#[tactic(auto, using(c_grammar::proofs::DeclSteps::length_missing))]
 fn read_type_length<'a>(
     alloc: Global,
     depth: u32,
@@ -144,7 +144,7 @@ fn read_type_length<'a>(
 // The lengths of a type name, none or more, each in its brackets and one level below the one before; `depth` levels
 // are above the first bracket.
 #[cycle(reading)]
-#[tactic(auto, using(crate::proofs::ListSteps::type_lengths_start, crate::proofs::ListSteps::one_item_more, crate::proofs::SpecRead::type_lengths_further, crate::proofs::SpecRead::type_lengths_measured, crate::proofs::SpecRead::type_lengths_read, crate::proofs::CodeSteps::type_lengths_stopped, crate::proofs::CodeSteps::type_lengths_many))]
+#[tactic(auto, using(c_grammar::proofs::ListSteps::type_lengths_start, c_grammar::proofs::ListSteps::one_item_more, crate::proofs::SpecRead::type_lengths_further, crate::proofs::SpecRead::type_lengths_measured, crate::proofs::SpecRead::type_lengths_read, c_grammar::proofs::CodeSteps::type_lengths_stopped, c_grammar::proofs::CodeSteps::type_lengths_many))]
 fn read_type_lengths<'a>(
     alloc: Global,
     depth: u32,
@@ -178,7 +178,7 @@ fn read_type_lengths<'a>(
 
 /// A type name, its levels, and what follows it. There are `depth` levels above it, and `probes` probes round it.
 #[cycle(reading)]
-#[tactic(auto, using(crate::proofs::SpecRead::type_read, crate::proofs::SpecRead::type_starless, crate::proofs::SpecRead::type_unended, crate::proofs::DeclSteps::type_fails))]
+#[tactic(auto, using(crate::proofs::SpecRead::type_read, crate::proofs::SpecRead::type_starless, crate::proofs::SpecRead::type_unended, c_grammar::proofs::DeclSteps::type_fails))]
 pub fn read_type_name<'a>(
     alloc: Global,
     depth: u32,
@@ -203,7 +203,7 @@ pub fn read_type_name<'a>(
 
 /// Specifiers, one at least, their levels, and what follows them.
 #[cycle(reading)]
-#[tactic(auto, using(crate::proofs::SpecRead::some_read, crate::proofs::SpecRead::some_unread, crate::proofs::DeclSteps::some_none))]
+#[tactic(auto, using(crate::proofs::SpecRead::some_read, crate::proofs::SpecRead::some_unread, c_grammar::proofs::DeclSteps::some_none))]
 pub fn read_specifiers<'a>(
     alloc: Global,
     depth: u32,
@@ -227,7 +227,7 @@ pub fn read_specifiers<'a>(
 
 /// Specifiers, none or more, their levels, and what follows them.
 #[cycle(reading)]
-#[tactic(auto, using(crate::proofs::ListSteps::specs_start, crate::proofs::SpecRead::specs_further, crate::proofs::SpecRead::specs_measured, crate::proofs::SpecRead::specs_read, crate::proofs::SpecRead::specs_unread))]
+#[tactic(auto, using(c_grammar::proofs::ListSteps::specs_start, crate::proofs::SpecRead::specs_further, crate::proofs::SpecRead::specs_measured, crate::proofs::SpecRead::specs_read, crate::proofs::SpecRead::specs_unread))]
 pub fn read_specs<'a>(
     alloc: Global,
     depth: u32,
@@ -280,19 +280,9 @@ fn read_spec<'a>(
     }
 }
 
-// A tag is there.
-fn has_name(name: &Option<Named>) -> bool
-    ensures { result ≡ is_there name.now }
-{
-    match name {
-        Some(_) => true,
-        None => false,
-    }
-}
-
 // A structure behind its key, with a tag or a member list or both.
 #[cycle(reading)]
-#[tactic(auto, using(crate::proofs::SpecRead::bare_struct_read, crate::proofs::SpecRead::struct_read, crate::proofs::SpecRead::struct_unread, crate::proofs::DeclSteps::struct_nothing))]
+#[tactic(auto, using(crate::proofs::SpecRead::bare_struct_read, crate::proofs::SpecRead::struct_read, crate::proofs::SpecRead::struct_unread, c_grammar::proofs::DeclSteps::struct_nothing))]
 fn read_struct<'a>(
     alloc: Global,
     depth: u32,
@@ -350,7 +340,7 @@ fn read_fields<'a>(
 
 // An enumeration behind its key, with a tag or enumerators or both.
 #[cycle(reading)]
-#[tactic(auto, using(crate::proofs::SpecRead::bare_enum_read, crate::proofs::SpecRead::enum_read, crate::proofs::SpecRead::enum_unread, crate::proofs::DeclSteps::enum_nothing))]
+#[tactic(auto, using(crate::proofs::SpecRead::bare_enum_read, crate::proofs::SpecRead::enum_read, crate::proofs::SpecRead::enum_unread, c_grammar::proofs::DeclSteps::enum_nothing))]
 fn read_enum<'a>(
     alloc: Global,
     depth: u32,
@@ -433,7 +423,7 @@ fn read_enumers<'a>(
 
 // An enumerator with its value, where it has one; the levels are those of the value.
 #[cycle(reading)]
-#[tactic(auto, using(crate::proofs::SpecRead::enumer_read, crate::proofs::DeclSteps::enumer_nameless, crate::proofs::DeclSteps::enumer_fails))]
+#[tactic(auto, using(crate::proofs::SpecRead::enumer_read, c_grammar::proofs::DeclSteps::enumer_nameless, c_grammar::proofs::DeclSteps::enumer_fails))]
 fn read_enumer<'a>(
     alloc: Global,
     depth: u32,
@@ -458,7 +448,7 @@ fn read_enumer<'a>(
 
 // The value of an enumerator behind its name, where it has one.
 #[cycle(reading)]
-#[tactic(auto, using(crate::proofs::SpecRead::value_left_out, crate::proofs::SpecRead::value_read, crate::proofs::DeclSteps::value_fails))]
+#[tactic(auto, using(crate::proofs::SpecRead::value_left_out, crate::proofs::SpecRead::value_read, c_grammar::proofs::DeclSteps::value_fails))]
 fn read_value<'a>(
     alloc: Global,
     depth: u32,

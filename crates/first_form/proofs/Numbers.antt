@@ -12,7 +12,7 @@ use Rattle.std.specs.Str.{bytes_eq}
 use Rattle.std.specs.Fmt.{decimal}
 use Rattle.std.specs.Str.{IsUtf8}
 use Rattle.std.specs.Str.Parse.{digits_value, AllDigits, ParsesUnsigned}
-use Rattle.c_tree.specs.declared.text.Text.{Text}
+use Rattle.c_syntax.specs.declared.text.Text.{Text}
 use Rattle.first_form.specs.Words.{number_value}
 
 abbrev value_if : Bool → Bool → ℕ → Option ℕ

@@ -3,7 +3,7 @@ use Rattle.std.proofs.Common.{◌≡◌, map, refl, ap, ◌∙◌}
 use mathlib.Core.Former.{Count}
 use Rattle.std.specs.declared.vec.Vec.{Vec}
 use Rattle.std.specs.declared.alloc.Global.{Global}
-use Rattle.c_tree.specs.declared.text.Text.{Text}
+use Rattle.c_syntax.specs.declared.text.Text.{Text}
 use Rattle.first_tree.specs.declared.tree.Node.{Node}
 use Rattle.first_tree.specs.declared.tree.Expr.{Row_of-Node, end_of-Node, more_of-Node, items-the_row-Node, items_hidden-the_row-Node-0}
 use Rattle.first_tree.specs.declared.tree.Expr.TheBlock.{hidden-the_row-Node-0}

@@ -1,7 +1,7 @@
 -- The steps of the reader of statements.
 use Rattle.std.proofs.Common.{◌≡◌, ℕ, suc, ◌+◌, ◌<◌, ◌≤◌, List, [], Option, Some, None, ap, ◌∙◌, arith}
 use Rattle.std.specs.Prelude.{nat_lt}
-use Rattle.c_tree.specs.declared.text.Text.{Text}
+use Rattle.c_syntax.specs.declared.text.Text.{Text}
 use Rattle.first_tree.specs.declared.token.Mark.TheVariants as mark
 use Rattle.first_tree.specs.declared.token.Key.TheVariants as key
 use Rattle.first_tree.specs.declared.token.Token.{Token}

@@ -4,7 +4,7 @@ use Rattle.std.specs.Str.{bytes_eq}
 use Rattle.std.specs.Fmt.{decimal}
 use Rattle.atac_base.specs.declared.place.Pos.{Pos}
 use Rattle.atac_base.specs.declared.place.IntKind.TheVariants as kinds
-use Rattle.c_tree.specs.declared.text.Text.{Text}
+use Rattle.c_syntax.specs.declared.text.Text.{Text}
 use Rattle.first_tree.specs.declared.token.Mark.{Mark}
 use Rattle.first_tree.specs.declared.token.Mark.TheVariants as mark
 use Rattle.first_tree.specs.declared.token.Key.{Key}

@@ -1,7 +1,7 @@
 -- What the code makes of what it reads: trees with their probes, and the places of their blocks.
 use Rattle.std.specs.Prelude.{◌≡◌, ℕ, Bool, List, [], ◌∷◌, ◌++◌, length}
 use Rattle.atac_base.specs.declared.place.Pos.{Pos}
-use Rattle.c_tree.specs.declared.text.Text.{Text}
+use Rattle.c_syntax.specs.declared.text.Text.{Text}
 use Rattle.first_tree.specs.declared.token.Token.{Token}
 use Rattle.first_tree.specs.declared.tree.Item.{Item}
 use Rattle.first_tree.specs.Shape.{StmtShape, FormShape, StmtShapes, more_stmts}

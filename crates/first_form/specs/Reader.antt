@@ -1,7 +1,7 @@
 -- A reader of programs. It takes the number of levels above what it reads, and a number of steps.
 use Rattle.std.specs.Prelude.{ℕ, zero, suc, ◌+◌, List, [], ◌∷◌, ◌++◌, Option, Some, None, option_map, Bool, true, false, ◌&&◌, nat_lt, is_none, codes}
 use Rattle.atac_base.specs.declared.place.Pos.{Pos}
-use Rattle.c_tree.specs.declared.text.Text.{Text}
+use Rattle.c_syntax.specs.declared.text.Text.{Text}
 use Rattle.first_tree.specs.declared.token.Mark.TheVariants as mark
 use Rattle.first_tree.specs.declared.token.Key.TheVariants as key
 use Rattle.first_tree.specs.declared.token.Token.{Token}

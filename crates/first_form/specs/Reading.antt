@@ -1,7 +1,7 @@
 -- The program that was read, with its probes and the places of its blocks.
 use Rattle.std.specs.Prelude.{◌≡◌, List, [], ◌∷◌, ◌++◌, Some, None, codes}
 use Rattle.atac_base.specs.declared.place.Pos.{Pos}
-use Rattle.c_tree.specs.declared.text.Text.{Text}
+use Rattle.c_syntax.specs.declared.text.Text.{Text}
 use Rattle.first_tree.specs.declared.token.Token.{Token}
 use Rattle.first_tree.specs.Shape.{DeclShape, braces, StmtShapes, function, UnitShape}
 use Rattle.first_tree.specs.Blocks.{blocks}

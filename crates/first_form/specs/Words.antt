@@ -3,7 +3,7 @@ use Rattle.std.specs.Prelude.{ℕ, Option, Some, None, Bool, true, false, ◌&&�
 use Rattle.std.specs.Str.{bytes_eq}
 use Rattle.std.specs.Fmt.{decimal}
 use Rattle.std.specs.Str.Parse.{digits_value}
-use Rattle.c_tree.specs.declared.text.Text.{Text}
+use Rattle.c_syntax.specs.declared.text.Text.{Text}
 use Rattle.first_form.specs.declared.words.Role.{Role}
 use Rattle.first_form.specs.declared.words.Role.TheVariants as role
 

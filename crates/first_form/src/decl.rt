@@ -10,7 +10,7 @@ use crate::names::Names;
 use crate::nodes::copied;
 use crate::words::{Role, read_role};
 use atac_base::place::Pos;
-use c_tree::text::Text;
+use c_syntax::text::Text;
 use first_tree::token::{Key, Mark, Token};
 use first_tree::tree::{Decl, Declarator, Init, Named};
 use std::alloc::Global;

@@ -10,7 +10,7 @@ use crate::names::Names;
 use crate::nodes::{get_node, name_node, number_node, paren_node, put_node, set_node, two_node};
 use crate::words::{Role, read_role, value_of};
 use atac_base::place::Pos;
-use c_tree::text::Text;
+use c_syntax::text::Text;
 use first_tree::token::{Mark, Token, TokenKind};
 use first_tree::tree::{BinaryOp, Node};
 use std::alloc::Global;

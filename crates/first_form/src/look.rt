@@ -2,7 +2,7 @@ ghost use Rattle.std.specs.Prelude.{◌≡◌, ◌<◌, length, false, Some, Non
 ghost use Rattle.first_form.specs.Look.{head, a_word, is_word, place, after, after_key, Signed, a_sign, no_sign, sign, Target, to_set, no_target, target};
 
 use atac_base::place::Pos;
-use c_tree::text::Text;
+use c_syntax::text::Text;
 use first_tree::token::{Key, Mark, Token, TokenKind};
 use first_tree::tree::BinaryOp;
 

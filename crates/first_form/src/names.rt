@@ -2,7 +2,7 @@ ghost use Rattle.std.specs.Prelude.{◌≡◌, ◌+◌, ◌<◌, [], ◌∷◌, 
 ghost use Rattle.first_form.specs.Grammar.{index_of};
 
 use atac_base::place::NoMemory;
-use c_tree::text::Text;
+use c_syntax::text::Text;
 use indexmap::IndexSet;
 use std::alloc::Global;
 use std::marker::Model;

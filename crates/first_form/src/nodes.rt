@@ -6,7 +6,7 @@ ghost use Rattle.first_form.specs.Reader.{name_at, number_at, get_at, two_at};
 
 use crate::look::Stop;
 use atac_base::place::{IntKind, Pos};
-use c_tree::text::Text;
+use c_syntax::text::Text;
 use first_tree::tree::{BinaryOp, CType, Expr, Node, Note};
 use std::alloc::Global;
 

@@ -14,7 +14,7 @@ use crate::stmt::{count_block, read_items};
 use crate::words::{Role, read_role};
 use atac_base::items::Items;
 use atac_base::place::{NoMemory, Pos};
-use c_tree::text::Text;
+use c_syntax::text::Text;
 use first_tree::token::{Key, Mark, Token, TokenKind};
 use first_tree::tree::{Compound, Decl, Declarator, External, Item, Named, ProbeMark, Unit};
 use std::alloc::Global;

@@ -15,7 +15,7 @@ use crate::expr::{read_expr, read_parens};
 use crate::look::{MOST_LEVELS, Stop, first_place, past, past_key};
 use crate::names::Names;
 use atac_base::place::{IntKind, Pos};
-use c_tree::text::Text;
+use c_syntax::text::Text;
 use first_tree::token::{Key, Mark, Token};
 use first_tree::tree::{
     CType, Compound, Expr, ExprProbe, Item, Node, Note, ProbeMark, Stmt, StmtForm,

@@ -2,7 +2,7 @@ ghost use Rattle.std.specs.Prelude.{◌≡◌, ℕ, ◌≤◌, IfSome, IfNone, S
 ghost use Rattle.std.specs.Fmt.{decimal};
 ghost use Rattle.first_form.specs.Words.{role_of, number_value};
 
-use c_tree::text::Text;
+use c_syntax::text::Text;
 use std::str;
 
 /// What a word stands for.

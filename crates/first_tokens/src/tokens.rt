@@ -6,7 +6,7 @@ ghost use Rattle.first_tree.specs.declared.token.Token.{Token};
 use crate::piece::{Piece, longest};
 use crate::words::{Word, read_word};
 use atac_base::place::{NoMemory, Pos};
-use c_tree::text::Text;
+use c_syntax::text::Text;
 use first_tree::token::{Token, TokenKind};
 use std::alloc::Global;
 

@@ -2,7 +2,7 @@
 use Rattle.std.specs.Prelude.{ℕ, ℤ, List, Option}
 use Rattle.atac_base.specs.declared.place.Pos.{Pos}
 use Rattle.atac_base.specs.declared.place.IntKind.{IntKind}
-use Rattle.c_tree.specs.declared.text.Text.{Text}
+use Rattle.c_syntax.specs.declared.text.Text.{Text}
 use Rattle.first_tree.specs.declared.tree.BinaryOp.{BinaryOp}
 use Rattle.first_tree.specs.declared.tree.ProbeMark.{ProbeMark}
 use Rattle.first_tree.specs.declared.tree.Named.{Named}

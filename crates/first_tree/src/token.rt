@@ -1,5 +1,5 @@
 use atac_base::place::Pos;
-use c_tree::text::Text;
+use c_syntax::text::Text;
 
 /// The marks (C89, 3.1.5 and 3.1.6).
 #[derive(Clone, Copy, Debug, PartialEq, Eq)]

@@ -1,5 +1,5 @@
 use atac_base::place::{IntKind, Pos};
-use c_tree::text::Text;
+use c_syntax::text::Text;
 
 /// A type (C89, 3.1.2.5).
 #[derive(Clone, Copy, Debug, PartialEq, Eq)]

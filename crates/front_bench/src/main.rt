@@ -6,7 +6,7 @@ use atac_base::place::Pos;
 use c_lex::{LexRefusal, TextKind, lex};
 use c_parse::refusal::ParseRefusal;
 use c_parse::unit::parse;
-use c_tree::tree::{External, Unit};
+use c_syntax::tree::{External, Unit};
 use std::alloc::{AllocError, Global};
 use std::io;
 

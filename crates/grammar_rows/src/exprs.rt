@@ -2,8 +2,8 @@
 
 use crate::spelled::{binary_mark, put_byte, put_text, unary_mark};
 use crate::types::put_type_name;
-use c_tree::text::Text;
-use c_tree::tree::{Expr, ExprProbe, Node, StepOp};
+use c_syntax::text::Text;
+use c_syntax::tree::{Expr, ExprProbe, Node, StepOp};
 use std::alloc::AllocError;
 
 #[cycle(phrases)]

@@ -1,8 +1,8 @@
 // Operators, keywords and texts as they are spelled.
 
-use c_tree::text::Text;
-use c_tree::token::Key;
-use c_tree::tree::{BinaryOp, UnaryOp};
+use c_syntax::text::Text;
+use c_syntax::token::Key;
+use c_syntax::tree::{BinaryOp, UnaryOp};
 use std::alloc::AllocError;
 
 pub fn put_text(out: &mut String, text: &Text) -> Result<(), AllocError> {

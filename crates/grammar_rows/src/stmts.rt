@@ -3,7 +3,7 @@
 use crate::exprs::put_node;
 use crate::spelled::put_text;
 use crate::types::{put_decl, put_declarator, put_decls, put_specs};
-use c_tree::tree::{Compound, External, Item, Label, Node, ProbeMark, Stmt, StmtForm, Unit};
+use c_syntax::tree::{Compound, External, Item, Label, Node, ProbeMark, Stmt, StmtForm, Unit};
 use std::alloc::AllocError;
 
 fn put_optional(out: &mut String, node: &Option<Node>) -> Result<(), AllocError> {

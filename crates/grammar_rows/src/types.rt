@@ -2,7 +2,7 @@
 
 use crate::exprs::{put_node, put_nodes};
 use crate::spelled::{key_word, put_text};
-use c_tree::tree::{
+use c_syntax::tree::{
     Decl, DeclForm, Declarator, Enumer, Init, Named, Param, Params, Spec, SpecForm, Star, TypeName,
 };
 use std::alloc::AllocError;

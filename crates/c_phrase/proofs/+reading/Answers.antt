@@ -1,21 +1,21 @@
 use Rattle.std.proofs.Common.{rules, ◌≡◌, ◌<◌, arith, suc, true, length, None, subst, ◌+◌, refl, ◌≤◌, false, ℕ, List, Some, IfOk, IsErrOf, MatchOption, ◌-◌, ◌*◌, ◌/◌, ◌%◌, Bool, nat_eq, nat_lt, [], ◌∷◌, ◌++◌, slice_index_or, slice_set, bit_and, bit_or, Fits, w8, w32, w64, Bor, MutBor, sym, ap, ◌∙◌}
 use Rattle.c_phrase.proofs.SpecRead.{specs_further, specs_measured, fields_read, given_read, lengths_further, lengths_measured, type_lengths_further, type_lengths_measured, type_starless, type_unended}
-use Rattle.c_tree.specs.Levels.{decls_height, behind_height}
-use Rattle.c_tree.specs.Shaped.{in_members, name_fits, in_params}
-use Rattle.c_tree.specs.View.{decl_list, decl_form_shape, spec_list, declarator_shape, node_shape, init_shape, init_list, node_list}
-use Rattle.c_phrase.specs.Look.{is_spec, spec_head, Finds, after}
-use Rattle.c_phrase.specs.Reader.{reads_decls, reads_declarator, reads, reads_stars, reads_lengths}
-use Rattle.c_phrase.specs.Found.{Found, NodeFound}
-use Rattle.c_phrase.specs.Parts.{behind, declaring}
-use Rattle.c_phrase.specs.CodeView.{standing_of, oper_of}
+use Rattle.c_syntax.specs.Levels.{decls_height, behind_height}
+use Rattle.c_syntax.specs.Shaped.{in_members, name_fits, in_params}
+use Rattle.c_syntax.specs.View.{decl_list, decl_form_shape, spec_list, declarator_shape, node_shape, init_shape, init_list, node_list}
+use Rattle.c_grammar.specs.Look.{is_spec, spec_head, Finds, after}
+use Rattle.c_grammar.specs.Reader.{reads_decls, reads_declarator, reads, reads_stars, reads_lengths}
+use Rattle.c_grammar.specs.Found.{Found, NodeFound}
+use Rattle.c_grammar.specs.Parts.{behind, declaring}
+use Rattle.c_grammar.specs.CodeView.{standing_of, oper_of}
 use Rattle.c_phrase.proofs.DeclRead.{named_unended, params_first, params_first_measured, params_further, params_measured, param_unread, further_unread, decl_unread, decl_unended, decls_further, decls_measured, one_read, list_read, list_unclosed, inits_first, inits_first_measured, inits_further, inits_measured}
-use Rattle.c_tree.specs.Forms.{place}
-use Rattle.c_tree.specs.Shape.{listed}
-use Rattle.c_phrase.proofs.ListSteps.{one_item_more}
-use Rattle.c_phrase.proofs.CodeSteps.{lengths_many, type_lengths_many}
+use Rattle.c_syntax.specs.Forms.{place}
+use Rattle.c_syntax.specs.Shape.{listed}
+use Rattle.c_grammar.proofs.ListSteps.{one_item_more}
+use Rattle.c_grammar.proofs.CodeSteps.{lengths_many, type_lengths_many}
 use Rattle.c_phrase.proofs.ExprRead.{climb_more, climb_unread, climb_too_high, choice_read, choice_unended, arguments_read, arguments_broken, arguments_unclosed, cast_read, cast_unended, mark_read, led_further, led_measured, led_ended, call_read, node_read, node_loose, node_unended, probed_read, probed_too_many, select_read, select_unread, simple_read, typed_read, typed_unclosed}
 use Rattle.std.proofs.lemmas.Result.{IfOk-weaker}
-use Rattle.c_tree.specs.declared.token.Mark.TheVariants as marks
+use Rattle.c_syntax.specs.declared.token.Mark.TheVariants as marks
 use Rattle.c_phrase.proofs.+reading.Goals as goal
 
 pub spec::read_specs-loop-begin-preserved : goal.spec::read_specs-loop-begin-preserved

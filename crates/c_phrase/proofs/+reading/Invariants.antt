@@ -1,12 +1,12 @@
 use Rattle.std.proofs.Common.{◌≡◌, ◌+◌, ◌≤◌, length, ◌*◌, ◌<◌}
-use Rattle.c_tree.specs.Levels.{specs_height, decls_height, inits_height, enumers_height, lengths_height}
-use Rattle.c_tree.specs.View.{spec_list, param_list, decl_list, init_list, node_shape, node_list, enumer_list, lengths_list, type_lengths_list}
-use Rattle.c_phrase.proofs.ListSteps.{SpecsFrom, ParamsFrom, DeclsFrom, InitsFrom, EnumersFrom, LengthsFrom, TypeLengthsFrom}
-use Rattle.c_phrase.specs.CodeView.{standing_of}
+use Rattle.c_syntax.specs.Levels.{specs_height, decls_height, inits_height, enumers_height, lengths_height}
+use Rattle.c_syntax.specs.View.{spec_list, param_list, decl_list, init_list, node_shape, node_list, enumer_list, lengths_list, type_lengths_list}
+use Rattle.c_grammar.proofs.ListSteps.{SpecsFrom, ParamsFrom, DeclsFrom, InitsFrom, EnumersFrom, LengthsFrom, TypeLengthsFrom}
+use Rattle.c_grammar.specs.CodeView.{standing_of}
 use Rattle.c_phrase.proofs.DeclRead.{FurtherSoFar}
-use Rattle.c_phrase.specs.Found.{Measured, AllMeasured}
+use Rattle.c_grammar.specs.Found.{Measured, AllMeasured}
 use Rattle.c_phrase.proofs.ExprRead.{ClimbsFrom, LedBehind}
-use Rattle.c_phrase.specs.Reader.{reads_enumers}
+use Rattle.c_grammar.specs.Reader.{reads_enumers}
 use Rattle.c_phrase.proofs.+reading.Given as goal
 
 abbrev pub decreases-expr::read_typed : goal.decreases-expr::read_typed

@@ -1,5 +1,5 @@
 use Rattle.std.proofs.Common.{◌≡◌, map, drop}
-use Rattle.c_tree.specs.View.{type_of}
+use Rattle.c_syntax.specs.View.{type_of}
 use Rattle.c_kinds.specs.Layouts.{measures, measure_of, known, laid_out, empty}
 use Rattle.c_kinds.proofs.layout.structure_measured.Given as goal
 

@@ -1,6 +1,6 @@
 use Rattle.std.proofs.Common.{rules, ◌≡◌, ◌+◌, ◌<◌, ◌≤◌, length, Some, None, IfOk, IsErrOf, ℕ, ◌-◌, ◌*◌, ◌/◌, ◌%◌, Bool, true, false, nat_eq, nat_lt, List, [], ◌∷◌, ◌++◌, slice_index_or, slice_set, bit_and, bit_or, Fits, w8, w32, w64, Bor, MutBor}
 use Rattle.std.proofs.lemmas.Result.{IfOk-weaker}
-use Rattle.c_tree.specs.View.{spec_list, declarator_shape}
+use Rattle.c_syntax.specs.View.{spec_list, declarator_shape}
 use Rattle.c_parse.proofs.UnitRead.{unit_is_shaped, unit_is_only, lineless, bare}
 use Rattle.c_parse.proofs.unit.parse.Goals as goal
 

@@ -1,0 +1,3 @@
+pub mod StmtReader
+pub mod StmtParts
+pub mod StmtFound

@@ -1,0 +1,577 @@
+-- The steps of the reader of types and declarations: one for each way that reading goes.
+pub use Rattle.c_grammar.specs.Parts.{one_length, structure, enumeration, fields, enumerators, value, behind, ending, declaring, params_of, inits_of}
+use Rattle.std.proofs.Common.{◌≡◌, ℕ, zero, suc, ◌+◌, ◌≤◌, ◌<◌, List, [], ◌∷◌, length, Option, Some, None, Bool, true, false, refl, sym, ap, ◌∙◌, subst, arith}
+use Rattle.std.specs.Prelude.{nat_lt}
+use Rattle.atac_base.specs.declared.place.Pos.{Pos}
+use Rattle.c_syntax.specs.declared.text.Text.{Text}
+use Rattle.c_syntax.specs.declared.token.Mark.TheVariants as marks
+use Rattle.c_syntax.specs.declared.token.Key.{Key}
+use Rattle.c_syntax.specs.declared.token.Key.TheVariants as keys
+use Rattle.c_syntax.specs.declared.token.ProbeWord.TheVariants as words
+use Rattle.c_syntax.specs.declared.token.Token.{Token}
+use Rattle.c_syntax.specs.declared.tree.Star.{Star}
+use Rattle.c_syntax.specs.declared.tree.Named.{Named}
+use Rattle.c_syntax.specs.Forms.{place}
+use Rattle.c_syntax.specs.Shape.{NodeShape, MaybeNode, no_node, one_node, LengthShapes, no_lengths, more_lengths, TypeShape, type_name, SpecShapes, no_specs, more_specs, SpecShape, word, struct, enum, no_members, members, no_rows, rows, EnumerShapes, no_enumers, more_enumers, DeclShape, decl, DeclShapes, no_decls, more_decls, DeclaratorShape, declarator, DeclaratorShapes, no_declarators, more_declarators, DeclFormShape, arrays, function, ParamsShape, empty, void, params, no_init, one_init, InitShape, one, listed, InitShapes, no_inits, more_inits}
+use Rattle.c_syntax.specs.Shaped.{Standing, in_members, in_params, name_fits, may_be_open, is_in_names, is_there, may_begin}
+use Rattle.c_grammar.specs.Look.{Got, got, then_go, go_after, either_way, where_true, if_so, Finds, after, after_key, after_probe, wanted, expect, a_word, SpecHead, a_spec_word, a_struct, an_enum, no_spec, spec_head, is_spec}
+use Rattle.c_grammar.specs.Reader.{one_got, length_onto, length_more, length_from, const_more, reads_consts, star_onto, star_more, reads_stars, type_made, type_lengths, type_stars, plain_name, tag_from, tag, probed_name, named_in, named_word, named_number, maybe_named, numbered, Lists, struct_made, struct_list, struct_tag, enum_made, enumer_onto, enumer_more, value_from, enumer_value, enumer_from, enum_list, enum_tag, spec_onto, spec_more, spec_list, some_from, function_got, arrays_got, Behind, behind_from, declarator_made, declarator_init, declarator_behind, declarator_name, declarator_onto, declarator_more, decl_onto, decl_more, decl_end, decl_first, decl_specs, decl_from, param_made, param_specs, closing, void_ahead, params_end, init_got, init_onto, init_more, listed_end, further, reads, reads_lengths, reads_specs, reads_enumers, reads_decls, reads_declarators, reads_declarator, reads_params, reads_init, reads_inits, reads_some, reads_type, lists, reads_param, reads_parameters, behinds, reads_decl}
+use Rattle.c_grammar.proofs.Looking.{find_from}
+use Rattle.c_grammar.proofs.ExprSteps.{low_go, high_none, then_found, then_fails, closed, closed_found, closed_fails, closed_open}
+
+-- ARRAY LENGTHS
+
+abbrev with_length : ℕ → ℕ → ℕ → List Token → Got MaybeNode
+with_length d g k l = then_go (reads 2 (suc d) g k l) one_got
+
+pub length_none : (free : Bool) (d g : ℕ) (ts r : List Token) → after marks.RightBracket ts ≡ Some r → free ≡ true → Finds (one_length free d g) ts (Some (no_node, r))
+length_none free d g ts r e f = record { from = 0; holds = λ k h. ap (λ o. either_way o (λ r. where_true free (got no_node r)) (closed marks.RightBracket (with_length d g) k ts)) e ∙ ap (λ b. where_true b (got no_node r)) f }
+
+pub length_missing : (free : Bool) (d g : ℕ) (ts r : List Token) → after marks.RightBracket ts ≡ Some r → free ≡ false → Finds (one_length free d g) ts None
+length_missing free d g ts r e f = record { from = 0; holds = λ k h. ap (λ o. either_way o (λ r. where_true free (got no_node r)) (closed marks.RightBracket (with_length d g) k ts)) e ∙ ap (λ b. where_true b (got no_node r)) f }
+
+some_length : (free : Bool) (d g : ℕ) (ts : List Token) (z : Got MaybeNode) → after marks.RightBracket ts ≡ None → Finds (closed marks.RightBracket (with_length d g)) ts z → Finds (one_length free d g) ts z
+some_length free d g ts z e p = record { from = p.from; holds = λ k h. ap (λ o. either_way o (λ r. where_true free (got no_node r)) (closed marks.RightBracket (with_length d g) k ts)) e ∙ p.holds k h }
+
+length_one : (d g : ℕ) (a : NodeShape) (ts x : List Token) → Finds (reads 2 (suc d) g) ts (got a x) → Finds (with_length d g) ts (got (one_node a) x)
+length_one d g a ts x p = then_found (reads 2 (suc d) g) (λ k. one_got) ts a x (got (one_node a) x) p (record { from = 0; holds = λ k h. refl })
+
+pub length_there : (free : Bool) (d g : ℕ) (a : NodeShape) (ts x y : List Token) → after marks.RightBracket ts ≡ None → Finds (reads 2 (suc d) g) ts (Some (a, x)) → after marks.RightBracket x ≡ Some y → Finds (one_length free d g) ts (Some (one_node a, y))
+length_there free d g a ts x y e p c = some_length free d g ts (got (one_node a) y) e (closed_found marks.RightBracket (with_length d g) ts (one_node a) x y (length_one d g a ts x p) c)
+
+pub length_fails : (free : Bool) (d g : ℕ) (ts : List Token) → after marks.RightBracket ts ≡ None → Finds (reads 2 (suc d) g) ts None → Finds (one_length free d g) ts None
+length_fails free d g ts e p = some_length free d g ts None e (closed_fails marks.RightBracket (with_length d g) ts (then_fails (reads 2 (suc d) g) (λ k. one_got) ts p))
+
+pub length_open : (free : Bool) (d g : ℕ) (a : NodeShape) (ts x : List Token) → after marks.RightBracket ts ≡ None → Finds (reads 2 (suc d) g) ts (Some (a, x)) → after marks.RightBracket x ≡ None → Finds (one_length free d g) ts None
+length_open free d g a ts x e p c = some_length free d g ts None e (closed_open marks.RightBracket (with_length d g) ts (one_node a) x (length_one d g a ts x p) c)
+
+abbrev lengths_behind : Bool → ℕ → ℕ → ℕ → List Token → Got LengthShapes
+lengths_behind free d g k r = where_true (nat_lt d 400) (then_go (one_length free d g k r) (length_more (λ l. reads_lengths free (suc d) g k l)))
+
+pub lengths_end : (free : Bool) (d g : ℕ) (ts : List Token) → after marks.LeftBracket ts ≡ None → Finds (reads_lengths free d g) ts (Some (no_lengths, ts))
+lengths_end free d g ts e = find_from (reads_lengths free d g) ts (got no_lengths ts) 0 (λ j h. ap (λ o. either_way o (lengths_behind free d g j) (got no_lengths ts)) e)
+
+pub lengths_deep : (free : Bool) (d g : ℕ) (ts r : List Token) → after marks.LeftBracket ts ≡ Some r → 400 ≤ d → Finds (reads_lengths free d g) ts None
+lengths_deep free d g ts r e high =
+    find_from (reads_lengths free d g) ts None 0 (λ j h. ap (λ o. either_way o (lengths_behind free d g j) (got no_lengths ts)) e ∙ high_none d 400 (then_go (one_length free d g j r) (length_more (λ l. reads_lengths free (suc d) g j l))) high)
+
+lengths_at : (free : Bool) (d g : ℕ) (ts r : List Token) → after marks.LeftBracket ts ≡ Some r → d < 400 → (j : ℕ) → reads_lengths free d g (suc j) ts ≡ then_go (one_length free d g j r) (length_more (λ l. reads_lengths free (suc d) g j l))
+lengths_at free d g ts r e low j = ap (λ o. either_way o (lengths_behind free d g j) (got no_lengths ts)) e ∙ low_go d 400 (then_go (one_length free d g j r) (length_more (λ l. reads_lengths free (suc d) g j l))) low
+
+pub lengths_on : (free : Bool) (d g : ℕ) (a : MaybeNode) (ts r x : List Token) (z : Got LengthShapes) → after marks.LeftBracket ts ≡ Some r → d < 400 → Finds (one_length free d g) r (Some (a, x)) → Finds (reads_lengths free (suc d) g) x z → Finds (reads_lengths free d g) ts (then_go z (length_onto a))
+lengths_on free d g a ts r x z e low p q =
+    find_from (reads_lengths free d g) ts (then_go z (length_onto a)) (p.from + q.from) (λ j h.
+    lengths_at free d g ts r e low j ∙ ap (λ f. then_go f (length_more (λ l. reads_lengths free (suc d) g j l))) (p.holds j (omega (arith, h))) ∙ ap (λ f. then_go f (length_onto a)) (q.holds j (omega (arith, h))))
+
+pub lengths_fail : (free : Bool) (d g : ℕ) (ts r : List Token) → after marks.LeftBracket ts ≡ Some r → d < 400 → Finds (one_length free d g) r None → Finds (reads_lengths free d g) ts None
+lengths_fail free d g ts r e low p =
+    find_from (reads_lengths free d g) ts None p.from (λ j h. lengths_at free d g ts r e low j ∙ ap (λ f. then_go f (length_more (λ l. reads_lengths free (suc d) g j l))) (p.holds j h))
+
+-- STARS
+
+pub consts_end : (ts : List Token) → after_key keys.Const ts ≡ None → Finds reads_consts ts (Some (0, ts))
+consts_end ts e = find_from reads_consts ts (got 0 ts) 0 (λ j h. ap (λ o. either_way o (λ r. then_go (reads_consts j r) const_more) (got 0 ts)) e)
+
+pub consts_on : (ts r : List Token) (z : Got ℕ) → after_key keys.Const ts ≡ Some r → Finds reads_consts r z → Finds reads_consts ts (then_go z const_more)
+consts_on ts r z e p = find_from reads_consts ts (then_go z const_more) p.from (λ j h. ap (λ o. either_way o (λ r. then_go (reads_consts j r) const_more) (got 0 ts)) e ∙ ap (λ f. then_go f const_more) (p.holds j h))
+
+abbrev stars_behind : ℕ → ℕ → List Token → List Token → Got (List Star)
+stars_behind d k ts r = where_true (nat_lt d 400) (then_go (reads_consts k r) (star_more (λ l. reads_stars (suc d) k l) (place ts)))
+
+pub stars_end : (d : ℕ) (ts : List Token) → after marks.Star ts ≡ None → Finds (reads_stars d) ts (Some ([], ts))
+stars_end d ts e = find_from (reads_stars d) ts (got [] ts) 0 (λ j h. ap (λ o. either_way o (stars_behind d j ts) (got [] ts)) e)
+
+pub stars_deep : (d : ℕ) (ts r : List Token) → after marks.Star ts ≡ Some r → 400 ≤ d → Finds (reads_stars d) ts None
+stars_deep d ts r e high =
+    find_from (reads_stars d) ts None 0 (λ j h. ap (λ o. either_way o (stars_behind d j ts) (got [] ts)) e ∙ high_none d 400 (then_go (reads_consts j r) (star_more (λ l. reads_stars (suc d) j l) (place ts))) high)
+
+pub stars_on : (d n : ℕ) (ts r x : List Token) (z : Got (List Star)) → after marks.Star ts ≡ Some r → d < 400 → Finds reads_consts r (Some (n, x)) → Finds (reads_stars (suc d)) x z → Finds (reads_stars d) ts (then_go z (star_onto (place ts) n))
+stars_on d n ts r x z e low p q =
+    find_from (reads_stars d) ts (then_go z (star_onto (place ts) n)) (p.from + q.from) (λ j h.
+    ap (λ o. either_way o (stars_behind d j ts) (got [] ts)) e
+    ∙ low_go d 400 (then_go (reads_consts j r) (star_more (λ l. reads_stars (suc d) j l) (place ts))) low
+    ∙ ap (λ f. then_go f (star_more (λ l. reads_stars (suc d) j l) (place ts))) (p.holds j (omega (arith, h)))
+    ∙ ap (λ f. then_go f (star_onto (place ts) n)) (q.holds j (omega (arith, h))))
+
+-- TYPE NAMES
+
+pub type_found : (d g : ℕ) (ts x y z : List Token) (specs : SpecShapes) (ss : List Star) (ls : LengthShapes) → Finds (reads_some d g) ts (Some (specs, x)) → Finds (reads_stars d) x (Some (ss, y)) → Finds (reads_lengths false (length ss + d) g) y (Some (ls, z)) → Finds (reads_type d g) ts (Some (type_name (place ts) specs ss ls, z))
+type_found d g ts x y z specs ss ls p q r = record {
+  from = p.from + (q.from + r.from);
+  holds = λ k h.
+      ap (λ f. then_go f (type_stars (reads_stars d k) (λ c l. reads_lengths false (c + d) g k l) (place ts))) (p.holds k (omega (arith, h)))
+      ∙ ap (λ f. then_go f (type_lengths (λ c l. reads_lengths false (c + d) g k l) (place ts) specs)) (q.holds k (omega (arith, h)))
+      ∙ ap (λ f. then_go f (type_made (place ts) specs ss)) (r.holds k (omega (arith, h)));
+}
+
+pub type_fails : (d g : ℕ) (ts : List Token) → Finds (reads_some d g) ts None → Finds (reads_type d g) ts None
+type_fails d g ts p = record { from = p.from; holds = λ k h. ap (λ f. then_go f (type_stars (reads_stars d k) (λ c l. reads_lengths false (c + d) g k l) (place ts))) (p.holds k h) }
+
+pub type_stars_fail : (d g : ℕ) (ts x : List Token) (specs : SpecShapes) → Finds (reads_some d g) ts (Some (specs, x)) → Finds (reads_stars d) x None → Finds (reads_type d g) ts None
+type_stars_fail d g ts x specs p q = record {
+  from = p.from + q.from;
+  holds = λ k h.
+      ap (λ f. then_go f (type_stars (reads_stars d k) (λ c l. reads_lengths false (c + d) g k l) (place ts))) (p.holds k (omega (arith, h)))
+      ∙ ap (λ f. then_go f (type_lengths (λ c l. reads_lengths false (c + d) g k l) (place ts) specs)) (q.holds k (omega (arith, h)));
+}
+
+pub type_lengths_fail : (d g : ℕ) (ts x y : List Token) (specs : SpecShapes) (ss : List Star) → Finds (reads_some d g) ts (Some (specs, x)) → Finds (reads_stars d) x (Some (ss, y)) → Finds (reads_lengths false (length ss + d) g) y None → Finds (reads_type d g) ts None
+type_lengths_fail d g ts x y specs ss p q r = record {
+  from = p.from + (q.from + r.from);
+  holds = λ k h.
+      ap (λ f. then_go f (type_stars (reads_stars d k) (λ c l. reads_lengths false (c + d) g k l) (place ts))) (p.holds k (omega (arith, h)))
+      ∙ ap (λ f. then_go f (type_lengths (λ c l. reads_lengths false (c + d) g k l) (place ts) specs)) (q.holds k (omega (arith, h)))
+      ∙ ap (λ f. then_go f (type_made (place ts) specs ss)) (r.holds k (omega (arith, h)));
+}
+
+-- SPECIFIERS
+
+-- specifiers, the first of which is there
+pub some_found : (d g : ℕ) (ts : List Token) (z : Got SpecShapes) → is_spec (spec_head ts) ≡ true → Finds (reads_specs d g) ts z → Finds (reads_some d g) ts z
+some_found d g ts z e p = record { from = p.from; holds = λ k h. ap (λ b. where_true b (reads_specs d g k ts)) e ∙ p.holds k h }
+
+pub some_none : (d g : ℕ) (ts : List Token) → is_spec (spec_head ts) ≡ false → Finds (reads_some d g) ts None
+some_none d g ts e = record { from = 0; holds = λ k h. ap (λ b. where_true b (reads_specs d g k ts)) e }
+
+specs_at : (d g : ℕ) (ts : List Token) (s : SpecHead) → spec_head ts ≡ s → (j : ℕ) → reads_specs d g (suc j) ts ≡ spec_list (lists d g j) d (λ r. reads_specs d g j r) ts s
+specs_at d g ts s e j = ap (spec_list (lists d g j) d (λ r. reads_specs d g j r) ts) e
+
+pub specs_end : (d g : ℕ) (ts : List Token) → spec_head ts ≡ no_spec → Finds (reads_specs d g) ts (Some (no_specs, ts))
+specs_end d g ts e = find_from (reads_specs d g) ts (got no_specs ts) 0 (λ j h. specs_at d g ts no_spec e j)
+
+pub specs_word : (d g : ℕ) (ts r : List Token) (x : Key) (z : Got SpecShapes) → spec_head ts ≡ a_spec_word x r → Finds (reads_specs d g) r z → Finds (reads_specs d g) ts (then_go z (spec_onto (place ts) (word x)))
+specs_word d g ts r x z e p =
+    find_from (reads_specs d g) ts (then_go z (spec_onto (place ts) (word x))) p.from (λ j h. specs_at d g ts (a_spec_word x r) e j ∙ ap (λ f. then_go f (spec_onto (place ts) (word x))) (p.holds j h))
+
+pub specs_struct : (d g : ℕ) (ts r x : List Token) (s : SpecShape) (z : Got SpecShapes) → spec_head ts ≡ a_struct r → Finds (structure d g) r (Some (s, x)) → Finds (reads_specs d g) x z → Finds (reads_specs d g) ts (then_go z (spec_onto (place ts) s))
+specs_struct d g ts r x s z e p q =
+    find_from (reads_specs d g) ts (then_go z (spec_onto (place ts) s)) (p.from + q.from) (λ j h.
+    specs_at d g ts (a_struct r) e j ∙ ap (λ f. then_go f (spec_more (λ r. reads_specs d g j r) (place ts))) (p.holds j (omega (arith, h))) ∙ ap (λ f. then_go f (spec_onto (place ts) s)) (q.holds j (omega (arith, h))))
+
+pub specs_struct_fails : (d g : ℕ) (ts r : List Token) → spec_head ts ≡ a_struct r → Finds (structure d g) r None → Finds (reads_specs d g) ts None
+specs_struct_fails d g ts r e p =
+    find_from (reads_specs d g) ts None p.from (λ j h. specs_at d g ts (a_struct r) e j ∙ ap (λ f. then_go f (spec_more (λ r. reads_specs d g j r) (place ts))) (p.holds j h))
+
+pub specs_enum : (d g : ℕ) (ts r x : List Token) (s : SpecShape) (z : Got SpecShapes) → spec_head ts ≡ an_enum r → Finds (enumeration d g) r (Some (s, x)) → Finds (reads_specs d g) x z → Finds (reads_specs d g) ts (then_go z (spec_onto (place ts) s))
+specs_enum d g ts r x s z e p q =
+    find_from (reads_specs d g) ts (then_go z (spec_onto (place ts) s)) (p.from + q.from) (λ j h.
+    specs_at d g ts (an_enum r) e j ∙ ap (λ f. then_go f (spec_more (λ r. reads_specs d g j r) (place ts))) (p.holds j (omega (arith, h))) ∙ ap (λ f. then_go f (spec_onto (place ts) s)) (q.holds j (omega (arith, h))))
+
+pub specs_enum_fails : (d g : ℕ) (ts r : List Token) → spec_head ts ≡ an_enum r → Finds (enumeration d g) r None → Finds (reads_specs d g) ts None
+specs_enum_fails d g ts r e p =
+    find_from (reads_specs d g) ts None p.from (λ j h. specs_at d g ts (an_enum r) e j ∙ ap (λ f. then_go f (spec_more (λ r. reads_specs d g j r) (place ts))) (p.holds j h))
+
+by_tag : {A : Type 0} (f : ℕ → Option Named → List Token → Got A) (ts x : List Token) (n : Option Named) (z : Got A) → tag ts ≡ got n x → Finds (λ k l. f k n l) x z → Finds (λ k l. then_go (tag l) (f k)) ts z
+by_tag f ts x n z e p = record { from = p.from; holds = λ k h. ap (λ q. then_go q (f k)) e ∙ p.holds k h }
+
+pub struct_plain : (d g : ℕ) (ts x : List Token) (n : Option Named) → tag ts ≡ Some (n, x) → after marks.LeftBrace x ≡ None → is_there n ≡ true → Finds (structure d g) ts (Some (struct n no_members, x))
+struct_plain d g ts x n e b t =
+    by_tag (λ k. struct_tag (lists d g k) d) ts x n (got (struct n no_members) x) e (record { from = 0; holds = λ k h. ap (λ o. either_way o (struct_list (lists d g k) d n) (where_true (is_there n) (got (struct n no_members) x))) b ∙ ap (λ c. where_true c (got (struct n no_members) x)) t })
+
+pub struct_nothing : (d g : ℕ) (ts x : List Token) (n : Option Named) → tag ts ≡ Some (n, x) → after marks.LeftBrace x ≡ None → is_there n ≡ false → Finds (structure d g) ts None
+struct_nothing d g ts x n e b t =
+    by_tag (λ k. struct_tag (lists d g k) d) ts x n None e (record { from = 0; holds = λ k h. ap (λ o. either_way o (struct_list (lists d g k) d n) (where_true (is_there n) (got (struct n no_members) x))) b ∙ ap (λ c. where_true c (got (struct n no_members) x)) t })
+
+to_list : (d g : ℕ) (ts x y : List Token) (n : Option Named) (z : Got SpecShape) → tag ts ≡ Some (n, x) → after marks.LeftBrace x ≡ Some y → Finds (λ k l. struct_list (lists d g k) d n l) y z → Finds (structure d g) ts z
+to_list d g ts x y n z e b p =
+    by_tag (λ k. struct_tag (lists d g k) d) ts x n z e (record { from = p.from; holds = λ k h. ap (λ o. either_way o (struct_list (lists d g k) d n) (where_true (is_there n) (got (struct n no_members) x))) b ∙ p.holds k h })
+
+abbrev listed_fields : ℕ → ℕ → ℕ → Option Named → List Token → Got SpecShape
+listed_fields d g k n l = where_true (is_spec (spec_head l)) (then_go (closed marks.RightBrace (fields d g) k l) (struct_made n))
+
+pub struct_deep : (d g : ℕ) (ts x y : List Token) (n : Option Named) → tag ts ≡ Some (n, x) → after marks.LeftBrace x ≡ Some y → 400 ≤ d → Finds (structure d g) ts None
+struct_deep d g ts x y n e b high = to_list d g ts x y n None e b (record { from = 0; holds = λ k h. high_none d 400 (listed_fields d g k n y) high })
+
+pub struct_bare : (d g : ℕ) (ts x y : List Token) (n : Option Named) → tag ts ≡ Some (n, x) → after marks.LeftBrace x ≡ Some y → d < 400 → is_spec (spec_head y) ≡ false → Finds (structure d g) ts None
+struct_bare d g ts x y n e b low f =
+    to_list d g ts x y n None e b (record { from = 0; holds = λ k h. low_go d 400 (listed_fields d g k n y) low ∙ ap (λ c. where_true c (then_go (closed marks.RightBrace (fields d g) k y) (struct_made n))) f })
+
+with_fields : (d g : ℕ) (ts x y : List Token) (n : Option Named) (z : Got DeclShapes) → tag ts ≡ Some (n, x) → after marks.LeftBrace x ≡ Some y → d < 400 → is_spec (spec_head y) ≡ true → Finds (closed marks.RightBrace (fields d g)) y z → Finds (structure d g) ts (then_go z (struct_made n))
+with_fields d g ts x y n z e b low f p =
+    to_list d g ts x y n (then_go z (struct_made n)) e b (record {
+      from = p.from;
+      holds = λ k h. low_go d 400 (listed_fields d g k n y) low ∙ ap (λ c. where_true c (then_go (closed marks.RightBrace (fields d g) k y) (struct_made n))) f ∙ ap (λ q. then_go q (struct_made n)) (p.holds k h);
+    })
+
+pub struct_found : (d g : ℕ) (ts x y z w : List Token) (n : Option Named) (ds : DeclShapes) → tag ts ≡ Some (n, x) → after marks.LeftBrace x ≡ Some y → d < 400 → is_spec (spec_head y) ≡ true → Finds (fields d g) y (Some (ds, z)) → after marks.RightBrace z ≡ Some w → Finds (structure d g) ts (Some (struct n (members ds), w))
+struct_found d g ts x y z w n ds e b low f p c = with_fields d g ts x y n (got ds w) e b low f (closed_found marks.RightBrace (fields d g) y ds z w p c)
+
+pub struct_fails : (d g : ℕ) (ts x y : List Token) (n : Option Named) → tag ts ≡ Some (n, x) → after marks.LeftBrace x ≡ Some y → d < 400 → is_spec (spec_head y) ≡ true → Finds (fields d g) y None → Finds (structure d g) ts None
+struct_fails d g ts x y n e b low f p = with_fields d g ts x y n None e b low f (closed_fails marks.RightBrace (fields d g) y p)
+
+pub struct_open : (d g : ℕ) (ts x y z : List Token) (n : Option Named) (ds : DeclShapes) → tag ts ≡ Some (n, x) → after marks.LeftBrace x ≡ Some y → d < 400 → is_spec (spec_head y) ≡ true → Finds (fields d g) y (Some (ds, z)) → after marks.RightBrace z ≡ None → Finds (structure d g) ts None
+struct_open d g ts x y z n ds e b low f p c = with_fields d g ts x y n None e b low f (closed_open marks.RightBrace (fields d g) y ds z p c)
+
+pub enum_plain : (d g : ℕ) (ts x : List Token) (n : Option Named) → tag ts ≡ Some (n, x) → after marks.LeftBrace x ≡ None → is_there n ≡ true → Finds (enumeration d g) ts (Some (enum n no_rows, x))
+enum_plain d g ts x n e b t =
+    by_tag (λ k. enum_tag (lists d g k)) ts x n (got (enum n no_rows) x) e (record { from = 0; holds = λ k h. ap (λ o. either_way o (enum_list (lists d g k) n) (where_true (is_there n) (got (enum n no_rows) x))) b ∙ ap (λ c. where_true c (got (enum n no_rows) x)) t })
+
+pub enum_nothing : (d g : ℕ) (ts x : List Token) (n : Option Named) → tag ts ≡ Some (n, x) → after marks.LeftBrace x ≡ None → is_there n ≡ false → Finds (enumeration d g) ts None
+enum_nothing d g ts x n e b t =
+    by_tag (λ k. enum_tag (lists d g k)) ts x n None e (record { from = 0; holds = λ k h. ap (λ o. either_way o (enum_list (lists d g k) n) (where_true (is_there n) (got (enum n no_rows) x))) b ∙ ap (λ c. where_true c (got (enum n no_rows) x)) t })
+
+with_rows : (d g : ℕ) (ts x y : List Token) (n : Option Named) (z : Got EnumerShapes) → tag ts ≡ Some (n, x) → after marks.LeftBrace x ≡ Some y → Finds (closed marks.RightBrace (enumerators d g)) y z → Finds (enumeration d g) ts (then_go z (enum_made n))
+with_rows d g ts x y n z e b p =
+    by_tag (λ k. enum_tag (lists d g k)) ts x n (then_go z (enum_made n)) e (record { from = p.from; holds = λ k h. ap (λ o. either_way o (enum_list (lists d g k) n) (where_true (is_there n) (got (enum n no_rows) x))) b ∙ ap (λ q. then_go q (enum_made n)) (p.holds k h) })
+
+pub enum_found : (d g : ℕ) (ts x y z w : List Token) (n : Option Named) (es : EnumerShapes) → tag ts ≡ Some (n, x) → after marks.LeftBrace x ≡ Some y → Finds (enumerators d g) y (Some (es, z)) → after marks.RightBrace z ≡ Some w → Finds (enumeration d g) ts (Some (enum n (rows es), w))
+enum_found d g ts x y z w n es e b p c = with_rows d g ts x y n (got es w) e b (closed_found marks.RightBrace (enumerators d g) y es z w p c)
+
+pub enum_fails : (d g : ℕ) (ts x y : List Token) (n : Option Named) → tag ts ≡ Some (n, x) → after marks.LeftBrace x ≡ Some y → Finds (enumerators d g) y None → Finds (enumeration d g) ts None
+enum_fails d g ts x y n e b p = with_rows d g ts x y n None e b (closed_fails marks.RightBrace (enumerators d g) y p)
+
+pub enum_open : (d g : ℕ) (ts x y z : List Token) (n : Option Named) (es : EnumerShapes) → tag ts ≡ Some (n, x) → after marks.LeftBrace x ≡ Some y → Finds (enumerators d g) y (Some (es, z)) → after marks.RightBrace z ≡ None → Finds (enumeration d g) ts None
+enum_open d g ts x y z n es e b p c = with_rows d g ts x y n None e b (closed_open marks.RightBrace (enumerators d g) y es z p c)
+
+pub value_none : (d g : ℕ) (ts : List Token) → after marks.Equal ts ≡ None → Finds (value d g) ts (Some (no_node, ts))
+value_none d g ts e = record { from = 0; holds = λ k h. ap (λ o. either_way o (λ r. then_go (reads 2 d g k r) one_got) (got no_node ts)) e }
+
+pub value_some : (d g : ℕ) (a : NodeShape) (ts r x : List Token) → after marks.Equal ts ≡ Some r → Finds (reads 2 d g) r (Some (a, x)) → Finds (value d g) ts (Some (one_node a, x))
+value_some d g a ts r x e p = record { from = p.from; holds = λ k h. ap (λ o. either_way o (λ r. then_go (reads 2 d g k r) one_got) (got no_node ts)) e ∙ ap (λ f. then_go f one_got) (p.holds k h) }
+
+pub value_fails : (d g : ℕ) (ts r : List Token) → after marks.Equal ts ≡ Some r → Finds (reads 2 d g) r None → Finds (value d g) ts None
+value_fails d g ts r e p = record { from = p.from; holds = λ k h. ap (λ o. either_way o (λ r. then_go (reads 2 d g k r) one_got) (got no_node ts)) e ∙ ap (λ f. then_go f one_got) (p.holds k h) }
+
+abbrev value_then : ℕ → ℕ → ℕ → Pos → Text → List Token → Got EnumerShapes
+value_then d g k p x l = enumer_value (λ r. reads 2 d g k r) (λ r. reads_enumers d g k r) p x l
+
+pub enumer_on : (d g : ℕ) (ts r y : List Token) (x : Text) (v : MaybeNode) (z : Got EnumerShapes) → a_word ts ≡ Some (x, r) → Finds (value d g) r (Some (v, y)) → Finds (reads_enumers d g) y z → Finds (enumerators d g) ts (then_go z (enumer_onto (plain_name (place ts) x) v))
+enumer_on d g ts r y x v z e p q = record {
+  from = p.from + q.from;
+  holds = λ k h.
+      ap (λ f. then_go f (value_then d g k (place ts))) e
+      ∙ ap (λ f. then_go f (enumer_more (λ r. reads_enumers d g k r) (plain_name (place ts) x))) (p.holds k (omega (arith, h)))
+      ∙ ap (λ f. then_go f (enumer_onto (plain_name (place ts) x) v)) (q.holds k (omega (arith, h)));
+}
+
+pub enumer_nameless : (d g : ℕ) (ts : List Token) → a_word ts ≡ None → Finds (enumerators d g) ts None
+enumer_nameless d g ts e = record { from = 0; holds = λ k h. ap (λ f. then_go f (value_then d g k (place ts))) e }
+
+pub enumer_fails : (d g : ℕ) (ts r : List Token) (x : Text) → a_word ts ≡ Some (x, r) → Finds (value d g) r None → Finds (enumerators d g) ts None
+enumer_fails d g ts r x e p = record { from = p.from; holds = λ k h. ap (λ f. then_go f (value_then d g k (place ts))) e ∙ ap (λ f. then_go f (enumer_more (λ r. reads_enumers d g k r) (plain_name (place ts) x))) (p.holds k h) }
+
+pub enumers_end : (d g : ℕ) (ts : List Token) → after marks.Comma ts ≡ None → Finds (reads_enumers d g) ts (Some (no_enumers, ts))
+enumers_end d g ts e = find_from (reads_enumers d g) ts (got no_enumers ts) 0 (λ j h. ap (λ o. either_way o (enumerators d g j) (got no_enumers ts)) e)
+
+pub enumers_on : (d g : ℕ) (ts r : List Token) (z : Got EnumerShapes) → after marks.Comma ts ≡ Some r → Finds (enumerators d g) r z → Finds (reads_enumers d g) ts z
+enumers_on d g ts r z e p = find_from (reads_enumers d g) ts z p.from (λ j h. ap (λ o. either_way o (enumerators d g j) (got no_enumers ts)) e ∙ p.holds j h)
+
+-- NAMES
+
+pub tag_some : (ts r : List Token) (x : Text) → a_word ts ≡ Some (x, r) → tag ts ≡ Some (Some (plain_name (place ts) x), r)
+tag_some ts r x e = ap (tag_from (place ts) ts) e
+
+pub tag_none : (ts : List Token) → a_word ts ≡ None → tag ts ≡ Some (None, ts)
+tag_none ts e = ap (tag_from (place ts) ts) e
+
+abbrev in_probe : List Token → List Token → Got (Option Named)
+in_probe ts r = then_go (numbered r) (named_number (place ts))
+
+pub named_plain : (ts : List Token) (z : Got (Option Named)) → after_probe words.Def ts ≡ None → tag ts ≡ z → maybe_named ts ≡ z
+named_plain ts z e t = ap (λ o. either_way o (in_probe ts) (tag ts)) e ∙ t
+
+pub named_probe : (ts r x y z w : List Token) (n v : Text) → after_probe words.Def ts ≡ Some r → numbered r ≡ Some (n, x) → after marks.Comma x ≡ Some y → a_word y ≡ Some (v, z) → after marks.RightParen z ≡ Some w → maybe_named ts ≡ Some (probed_name (place ts) n (place y) v, w)
+named_probe ts r x y z w n v e m c a b =
+    ap (λ o. either_way o (in_probe ts) (tag ts)) e
+    ∙ ap (λ f. then_go f (named_number (place ts))) m
+    ∙ ap (λ o. go_after o (named_word (place ts) n)) c
+    ∙ ap (λ f. then_go f (named_in (place ts) n (place y))) a
+    ∙ ap (wanted (probed_name (place ts) n (place y) v)) b
+
+pub named_unnumbered : (ts r : List Token) → after_probe words.Def ts ≡ Some r → numbered r ≡ None → maybe_named ts ≡ None
+named_unnumbered ts r e m = ap (λ o. either_way o (in_probe ts) (tag ts)) e ∙ ap (λ f. then_go f (named_number (place ts))) m
+
+pub named_alone : (ts r x : List Token) (n : Text) → after_probe words.Def ts ≡ Some r → numbered r ≡ Some (n, x) → after marks.Comma x ≡ None → maybe_named ts ≡ None
+named_alone ts r x n e m c = ap (λ o. either_way o (in_probe ts) (tag ts)) e ∙ ap (λ f. then_go f (named_number (place ts))) m ∙ ap (λ o. go_after o (named_word (place ts) n)) c
+
+pub named_nameless : (ts r x y : List Token) (n : Text) → after_probe words.Def ts ≡ Some r → numbered r ≡ Some (n, x) → after marks.Comma x ≡ Some y → a_word y ≡ None → maybe_named ts ≡ None
+named_nameless ts r x y n e m c a =
+    ap (λ o. either_way o (in_probe ts) (tag ts)) e ∙ ap (λ f. then_go f (named_number (place ts))) m ∙ ap (λ o. go_after o (named_word (place ts) n)) c ∙ ap (λ f. then_go f (named_in (place ts) n (place y))) a
+
+pub named_open : (ts r x y z : List Token) (n v : Text) → after_probe words.Def ts ≡ Some r → numbered r ≡ Some (n, x) → after marks.Comma x ≡ Some y → a_word y ≡ Some (v, z) → after marks.RightParen z ≡ None → maybe_named ts ≡ None
+named_open ts r x y z n v e m c a b =
+    ap (λ o. either_way o (in_probe ts) (tag ts)) e
+    ∙ ap (λ f. then_go f (named_number (place ts))) m
+    ∙ ap (λ o. go_after o (named_word (place ts) n)) c
+    ∙ ap (λ f. then_go f (named_in (place ts) n (place y))) a
+    ∙ ap (wanted (probed_name (place ts) n (place y) v)) b
+
+-- DECLARATORS
+
+abbrev listed_params : Standing → ℕ → ℕ → ℕ → List Token → Got DeclFormShape
+listed_params s d g k r = where_true (is_in_names s) (then_go (reads_parameters (suc d) g k r) function_got)
+
+pub behind_arrays : (s : Standing) (d g c : ℕ) (ts x : List Token) (ls : LengthShapes) → after marks.LeftParen ts ≡ None → Finds (reads_lengths (may_be_open s) (c + suc d) g) ts (Some (ls, x)) → Finds (behind s d g c) ts (Some (arrays ls, x))
+behind_arrays s d g c ts x ls e p = record { from = p.from; holds = λ k h. ap (λ o. either_way o (listed_params s d g k) (then_go (reads_lengths (may_be_open s) (c + suc d) g k ts) arrays_got)) e ∙ ap (λ f. then_go f arrays_got) (p.holds k h) }
+
+pub behind_arrays_fail : (s : Standing) (d g c : ℕ) (ts : List Token) → after marks.LeftParen ts ≡ None → Finds (reads_lengths (may_be_open s) (c + suc d) g) ts None → Finds (behind s d g c) ts None
+behind_arrays_fail s d g c ts e p = record { from = p.from; holds = λ k h. ap (λ o. either_way o (listed_params s d g k) (then_go (reads_lengths (may_be_open s) (c + suc d) g k ts) arrays_got)) e ∙ ap (λ f. then_go f arrays_got) (p.holds k h) }
+
+to_params : (s : Standing) (d g c : ℕ) (ts r : List Token) (z : Got DeclFormShape) → after marks.LeftParen ts ≡ Some r → Finds (listed_params s d g) r z → Finds (behind s d g c) ts z
+to_params s d g c ts r z e p = record { from = p.from; holds = λ k h. ap (λ o. either_way o (listed_params s d g k) (then_go (reads_lengths (may_be_open s) (c + suc d) g k ts) arrays_got)) e ∙ p.holds k h }
+
+pub behind_params : (s : Standing) (d g c : ℕ) (ts r x : List Token) (ps : ParamsShape) → after marks.LeftParen ts ≡ Some r → is_in_names s ≡ true → Finds (reads_parameters (suc d) g) r (Some (ps, x)) → Finds (behind s d g c) ts (Some (function ps, x))
+behind_params s d g c ts r x ps e b p = to_params s d g c ts r (got (function ps) x) e (record { from = p.from; holds = λ k h. ap (λ b. where_true b (then_go (reads_parameters (suc d) g k r) function_got)) b ∙ ap (λ f. then_go f function_got) (p.holds k h) })
+
+pub behind_params_fail : (s : Standing) (d g c : ℕ) (ts r : List Token) → after marks.LeftParen ts ≡ Some r → is_in_names s ≡ true → Finds (reads_parameters (suc d) g) r None → Finds (behind s d g c) ts None
+behind_params_fail s d g c ts r e b p = to_params s d g c ts r None e (record { from = p.from; holds = λ k h. ap (λ b. where_true b (then_go (reads_parameters (suc d) g k r) function_got)) b ∙ ap (λ f. then_go f function_got) (p.holds k h) })
+
+pub behind_no_function : (s : Standing) (d g c : ℕ) (ts r : List Token) → after marks.LeftParen ts ≡ Some r → is_in_names s ≡ false → Finds (behind s d g c) ts None
+behind_no_function s d g c ts r e b = to_params s d g c ts r None e (record { from = 0; holds = λ k h. ap (λ b. where_true b (then_go (reads_parameters (suc d) g k r) function_got)) b })
+
+abbrev with_init : Standing → ℕ → ℕ → List Star → Option Named → DeclFormShape → ℕ → List Token → Got DeclaratorShape
+with_init s d g ss n f k r = where_true (may_begin s f) (then_go (reads_init (suc d) g k r) (declarator_made ss n f))
+
+pub ending_plain : (s : Standing) (d g : ℕ) (ss : List Star) (n : Option Named) (f : DeclFormShape) (ts : List Token) → after marks.Equal ts ≡ None → Finds (ending s d g ss n f) ts (Some (declarator ss n f no_init, ts))
+ending_plain s d g ss n f ts e = record { from = 0; holds = λ k h. ap (λ o. either_way o (with_init s d g ss n f k) (got (declarator ss n f no_init) ts)) e }
+
+to_init : (s : Standing) (d g : ℕ) (ss : List Star) (n : Option Named) (f : DeclFormShape) (ts r : List Token) (z : Got DeclaratorShape) → after marks.Equal ts ≡ Some r → Finds (with_init s d g ss n f) r z → Finds (ending s d g ss n f) ts z
+to_init s d g ss n f ts r z e p = record { from = p.from; holds = λ k h. ap (λ o. either_way o (with_init s d g ss n f k) (got (declarator ss n f no_init) ts)) e ∙ p.holds k h }
+
+pub ending_init : (s : Standing) (d g : ℕ) (ss : List Star) (n : Option Named) (f : DeclFormShape) (i : InitShape) (ts r x : List Token) → after marks.Equal ts ≡ Some r → may_begin s f ≡ true → Finds (reads_init (suc d) g) r (Some (i, x)) → Finds (ending s d g ss n f) ts (Some (declarator ss n f (one_init i), x))
+ending_init s d g ss n f i ts r x e b p =
+    to_init s d g ss n f ts r (got (declarator ss n f (one_init i)) x) e (record { from = p.from; holds = λ k h. ap (λ b. where_true b (then_go (reads_init (suc d) g k r) (declarator_made ss n f))) b ∙ ap (λ q. then_go q (declarator_made ss n f)) (p.holds k h) })
+
+pub ending_fails : (s : Standing) (d g : ℕ) (ss : List Star) (n : Option Named) (f : DeclFormShape) (ts r : List Token) → after marks.Equal ts ≡ Some r → may_begin s f ≡ true → Finds (reads_init (suc d) g) r None → Finds (ending s d g ss n f) ts None
+ending_fails s d g ss n f ts r e b p =
+    to_init s d g ss n f ts r None e (record { from = p.from; holds = λ k h. ap (λ b. where_true b (then_go (reads_init (suc d) g k r) (declarator_made ss n f))) b ∙ ap (λ q. then_go q (declarator_made ss n f)) (p.holds k h) })
+
+pub ending_no_init : (s : Standing) (d g : ℕ) (ss : List Star) (n : Option Named) (f : DeclFormShape) (ts r : List Token) → after marks.Equal ts ≡ Some r → may_begin s f ≡ false → Finds (ending s d g ss n f) ts None
+ending_no_init s d g ss n f ts r e b = to_init s d g ss n f ts r None e (record { from = 0; holds = λ k h. ap (λ b. where_true b (then_go (reads_init (suc d) g k r) (declarator_made ss n f))) b })
+
+pub declarator_deep : (s : Standing) (d g : ℕ) (ts : List Token) → 400 ≤ d → Finds (reads_declarator s d g) ts None
+declarator_deep s d g ts high = find_from (reads_declarator s d g) ts None 0 (λ j h. high_none d 400 (then_go (reads_stars (suc d) j ts) (declarator_name s (behinds s d g j))) high)
+
+from_stars : (s : Standing) (d g : ℕ) (ts x : List Token) (ss : List Star) (z : Got DeclaratorShape) → d < 400 → Finds (reads_stars (suc d)) ts (Some (ss, x)) → Finds (λ k l. declarator_name s (behinds s d g k) ss l) x z → Finds (reads_declarator s d g) ts z
+from_stars s d g ts x ss z low p q =
+    find_from (reads_declarator s d g) ts z (p.from + q.from) (λ j h.
+    low_go d 400 (then_go (reads_stars (suc d) j ts) (declarator_name s (behinds s d g j))) low ∙ ap (λ f. then_go f (declarator_name s (behinds s d g j))) (p.holds j (omega (arith, h))) ∙ q.holds j (omega (arith, h)))
+
+pub declarator_stars_fail : (s : Standing) (d g : ℕ) (ts : List Token) → d < 400 → Finds (reads_stars (suc d)) ts None → Finds (reads_declarator s d g) ts None
+declarator_stars_fail s d g ts low p =
+    find_from (reads_declarator s d g) ts None p.from (λ j h. low_go d 400 (then_go (reads_stars (suc d) j ts) (declarator_name s (behinds s d g j))) low ∙ ap (λ f. then_go f (declarator_name s (behinds s d g j))) (p.holds j h))
+
+pub declarator_name_fails : (s : Standing) (d g : ℕ) (ts x : List Token) (ss : List Star) → d < 400 → Finds (reads_stars (suc d)) ts (Some (ss, x)) → maybe_named x ≡ None → Finds (reads_declarator s d g) ts None
+declarator_name_fails s d g ts x ss low p e = from_stars s d g ts x ss None low p (record { from = 0; holds = λ k h. ap (λ f. then_go f (declarator_behind s (behinds s d g k) ss)) e })
+
+pub declarator_unfit : (s : Standing) (d g : ℕ) (ts x y : List Token) (ss : List Star) (n : Option Named) → d < 400 → Finds (reads_stars (suc d)) ts (Some (ss, x)) → maybe_named x ≡ Some (n, y) → name_fits s n ≡ false → Finds (reads_declarator s d g) ts None
+declarator_unfit s d g ts x y ss n low p e b =
+    from_stars s d g ts x ss None low p (record { from = 0; holds = λ k h. ap (λ f. then_go f (declarator_behind s (behinds s d g k) ss)) e ∙ ap (λ b. where_true b (then_go (behind s d g (length ss) k y) (declarator_init s (behinds s d g k) ss n))) b })
+
+pub declarator_found : (s : Standing) (d g : ℕ) (ts x y w : List Token) (ss : List Star) (n : Option Named) (f : DeclFormShape) (z : Got DeclaratorShape) → d < 400 → Finds (reads_stars (suc d)) ts (Some (ss, x)) → maybe_named x ≡ Some (n, y) → name_fits s n ≡ true → Finds (behind s d g (length ss)) y (Some (f, w)) → Finds (ending s d g ss n f) w z → Finds (reads_declarator s d g) ts z
+declarator_found s d g ts x y w ss n f z low p e b q r =
+    from_stars s d g ts x ss z low p (record {
+      from = q.from + r.from;
+      holds = λ k h.
+          ap (λ f. then_go f (declarator_behind s (behinds s d g k) ss)) e
+          ∙ ap (λ b. where_true b (then_go (behind s d g (length ss) k y) (declarator_init s (behinds s d g k) ss n))) b
+          ∙ ap (λ f. then_go f (declarator_init s (behinds s d g k) ss n)) (q.holds k (omega (arith, h)))
+          ∙ r.holds k (omega (arith, h));
+    })
+
+pub declarator_behind_fails : (s : Standing) (d g : ℕ) (ts x y : List Token) (ss : List Star) (n : Option Named) → d < 400 → Finds (reads_stars (suc d)) ts (Some (ss, x)) → maybe_named x ≡ Some (n, y) → name_fits s n ≡ true → Finds (behind s d g (length ss)) y None → Finds (reads_declarator s d g) ts None
+declarator_behind_fails s d g ts x y ss n low p e b q =
+    from_stars s d g ts x ss None low p (record {
+      from = q.from;
+      holds = λ k h.
+          ap (λ f. then_go f (declarator_behind s (behinds s d g k) ss)) e
+          ∙ ap (λ b. where_true b (then_go (behind s d g (length ss) k y) (declarator_init s (behinds s d g k) ss n))) b
+          ∙ ap (λ f. then_go f (declarator_init s (behinds s d g k) ss n)) (q.holds k h);
+    })
+
+pub declarators_end : (s : Standing) (d g : ℕ) (ts : List Token) → after marks.Comma ts ≡ None → Finds (reads_declarators s d g) ts (Some (no_declarators, ts))
+declarators_end s d g ts e = find_from (reads_declarators s d g) ts (got no_declarators ts) 0 (λ j h. ap (λ o. either_way o (λ r. then_go (reads_declarator s d g j r) (declarator_more (λ l. reads_declarators s d g j l))) (got no_declarators ts)) e)
+
+pub declarators_on : (s : Standing) (d g : ℕ) (t : DeclaratorShape) (ts r x : List Token) (z : Got DeclaratorShapes) → after marks.Comma ts ≡ Some r → Finds (reads_declarator s d g) r (Some (t, x)) → Finds (reads_declarators s d g) x z → Finds (reads_declarators s d g) ts (then_go z (declarator_onto t))
+declarators_on s d g t ts r x z e p q =
+    find_from (reads_declarators s d g) ts (then_go z (declarator_onto t)) (p.from + q.from) (λ j h.
+    ap (λ o. either_way o (λ r. then_go (reads_declarator s d g j r) (declarator_more (λ l. reads_declarators s d g j l))) (got no_declarators ts)) e
+    ∙ ap (λ f. then_go f (declarator_more (λ l. reads_declarators s d g j l))) (p.holds j (omega (arith, h)))
+    ∙ ap (λ f. then_go f (declarator_onto t)) (q.holds j (omega (arith, h))))
+
+pub declarators_fail : (s : Standing) (d g : ℕ) (ts r : List Token) → after marks.Comma ts ≡ Some r → Finds (reads_declarator s d g) r None → Finds (reads_declarators s d g) ts None
+declarators_fail s d g ts r e p =
+    find_from (reads_declarators s d g) ts None p.from (λ j h.
+    ap (λ o. either_way o (λ r. then_go (reads_declarator s d g j r) (declarator_more (λ l. reads_declarators s d g j l))) (got no_declarators ts)) e ∙ ap (λ f. then_go f (declarator_more (λ l. reads_declarators s d g j l))) (p.holds j h))
+
+-- DECLARATIONS
+
+abbrev one_of : Standing → ℕ → ℕ → ℕ → List Token → Got DeclaratorShape
+one_of s d g k l = reads_declarator s d g k l
+
+abbrev further_of : Standing → ℕ → ℕ → ℕ → List Token → Got DeclaratorShapes
+further_of s d g k l = reads_declarators s d g k l
+
+pub declaring_found : (s : Standing) (d g : ℕ) (p : Pos) (specs : SpecShapes) (t : DeclaratorShape) (ts x y : List Token) (ds : DeclaratorShapes) → Finds (reads_declarators s d g) ts (Some (ds, x)) → after marks.Semicolon x ≡ Some y → Finds (declaring s d g p specs t) ts (Some (decl p specs (more_declarators t ds), y))
+declaring_found s d g p specs t ts x y ds q c = record { from = q.from; holds = λ k h. ap (λ f. then_go f (decl_end p specs t)) (q.holds k h) ∙ ap (wanted (decl p specs (more_declarators t ds))) c }
+
+pub declaring_fails : (s : Standing) (d g : ℕ) (p : Pos) (specs : SpecShapes) (t : DeclaratorShape) (ts : List Token) → Finds (reads_declarators s d g) ts None → Finds (declaring s d g p specs t) ts None
+declaring_fails s d g p specs t ts q = record { from = q.from; holds = λ k h. ap (λ f. then_go f (decl_end p specs t)) (q.holds k h) }
+
+pub declaring_open : (s : Standing) (d g : ℕ) (p : Pos) (specs : SpecShapes) (t : DeclaratorShape) (ts x : List Token) (ds : DeclaratorShapes) → Finds (reads_declarators s d g) ts (Some (ds, x)) → after marks.Semicolon x ≡ None → Finds (declaring s d g p specs t) ts None
+declaring_open s d g p specs t ts x ds q c = record { from = q.from; holds = λ k h. ap (λ f. then_go f (decl_end p specs t)) (q.holds k h) ∙ ap (wanted (decl p specs (more_declarators t ds))) c }
+
+abbrev named_none : Standing → Pos → SpecShapes → List Token → Got DeclShape
+named_none s p specs r = where_true (is_in_names s) (got (decl p specs no_declarators) r)
+
+to_specs : (s : Standing) (d g : ℕ) (ts x : List Token) (specs : SpecShapes) (o : Option (List Token)) (z : Got DeclShape) → Finds (reads_specs d g) ts (Some (specs, x)) → after marks.Semicolon x ≡ o → Finds (λ k l. either_way o (named_none s (place ts) specs) (then_go (reads_declarator s d g k x) (decl_first (further_of s d g k) (place ts) specs))) x z → Finds (reads_decl s d g) ts z
+to_specs s d g ts x specs o z p e q = record {
+  from = p.from + q.from;
+  holds = λ k h.
+      ap (λ f. then_go f (decl_specs s (one_of s d g k) (further_of s d g k) (place ts))) (p.holds k (omega (arith, h)))
+      ∙ ap (λ o. either_way o (named_none s (place ts) specs) (then_go (reads_declarator s d g k x) (decl_first (further_of s d g k) (place ts) specs))) e
+      ∙ q.holds k (omega (arith, h));
+}
+
+pub decl_fails : (s : Standing) (d g : ℕ) (ts : List Token) → Finds (reads_specs d g) ts None → Finds (reads_decl s d g) ts None
+decl_fails s d g ts p = record { from = p.from; holds = λ k h. ap (λ f. then_go f (decl_specs s (one_of s d g k) (further_of s d g k) (place ts))) (p.holds k h) }
+
+pub decl_plain : (s : Standing) (d g : ℕ) (ts x y : List Token) (specs : SpecShapes) → Finds (reads_specs d g) ts (Some (specs, x)) → after marks.Semicolon x ≡ Some y → is_in_names s ≡ true → Finds (reads_decl s d g) ts (Some (decl (place ts) specs no_declarators, y))
+decl_plain s d g ts x y specs p e b = to_specs s d g ts x specs (Some y) (got (decl (place ts) specs no_declarators) y) p e (record { from = 0; holds = λ k h. ap (λ b. where_true b (got (decl (place ts) specs no_declarators) y)) b })
+
+pub decl_fieldless : (s : Standing) (d g : ℕ) (ts x y : List Token) (specs : SpecShapes) → Finds (reads_specs d g) ts (Some (specs, x)) → after marks.Semicolon x ≡ Some y → is_in_names s ≡ false → Finds (reads_decl s d g) ts None
+decl_fieldless s d g ts x y specs p e b = to_specs s d g ts x specs (Some y) None p e (record { from = 0; holds = λ k h. ap (λ b. where_true b (got (decl (place ts) specs no_declarators) y)) b })
+
+pub decl_found : (s : Standing) (d g : ℕ) (ts x y : List Token) (specs : SpecShapes) (t : DeclaratorShape) (z : Got DeclShape) → Finds (reads_specs d g) ts (Some (specs, x)) → after marks.Semicolon x ≡ None → Finds (reads_declarator s d g) x (Some (t, y)) → Finds (declaring s d g (place ts) specs t) y z → Finds (reads_decl s d g) ts z
+decl_found s d g ts x y specs t z p e q r = to_specs s d g ts x specs None z p e (record { from = q.from + r.from; holds = λ k h. ap (λ f. then_go f (decl_first (further_of s d g k) (place ts) specs)) (q.holds k (omega (arith, h))) ∙ r.holds k (omega (arith, h)) })
+
+pub decl_first_fails : (s : Standing) (d g : ℕ) (ts x : List Token) (specs : SpecShapes) → Finds (reads_specs d g) ts (Some (specs, x)) → after marks.Semicolon x ≡ None → Finds (reads_declarator s d g) x None → Finds (reads_decl s d g) ts None
+decl_first_fails s d g ts x specs p e q = to_specs s d g ts x specs None None p e (record { from = q.from; holds = λ k h. ap (λ f. then_go f (decl_first (further_of s d g k) (place ts) specs)) (q.holds k h) })
+
+abbrev decls_if : Standing → ℕ → ℕ → ℕ → List Token → Bool → Got DeclShapes
+decls_if s d g k ts b = if_so b (then_go (reads_decl s d g k ts) (decl_more (λ l. reads_decls s d g k l))) (got no_decls ts)
+
+pub decls_end : (s : Standing) (d g : ℕ) (ts : List Token) → is_spec (spec_head ts) ≡ false → Finds (reads_decls s d g) ts (Some (no_decls, ts))
+decls_end s d g ts e = find_from (reads_decls s d g) ts (got no_decls ts) 0 (λ j h. ap (decls_if s d g j ts) e)
+
+pub decls_on : (s : Standing) (d g : ℕ) (t : DeclShape) (ts x : List Token) (z : Got DeclShapes) → is_spec (spec_head ts) ≡ true → Finds (reads_decl s d g) ts (Some (t, x)) → Finds (reads_decls s d g) x z → Finds (reads_decls s d g) ts (then_go z (decl_onto t))
+decls_on s d g t ts x z e p q =
+    find_from (reads_decls s d g) ts (then_go z (decl_onto t)) (p.from + q.from) (λ j h.
+    ap (decls_if s d g j ts) e ∙ ap (λ f. then_go f (decl_more (λ l. reads_decls s d g j l))) (p.holds j (omega (arith, h))) ∙ ap (λ f. then_go f (decl_onto t)) (q.holds j (omega (arith, h))))
+
+pub decls_fail : (s : Standing) (d g : ℕ) (ts : List Token) → is_spec (spec_head ts) ≡ true → Finds (reads_decl s d g) ts None → Finds (reads_decls s d g) ts None
+decls_fail s d g ts e p = find_from (reads_decls s d g) ts None p.from (λ j h. ap (decls_if s d g j ts) e ∙ ap (λ f. then_go f (decl_more (λ l. reads_decls s d g j l))) (p.holds j h))
+
+-- PARAMETERS
+
+pub param_found : (d g : ℕ) (ts x y : List Token) (specs : SpecShapes) (t : DeclaratorShape) → Finds (reads_some d g) ts (Some (specs, x)) → Finds (reads_declarator in_params d g) x (Some (t, y)) → Finds (reads_param d g) ts (Some (decl (place ts) specs (more_declarators t no_declarators), y))
+param_found d g ts x y specs t p q = record {
+  from = p.from + q.from;
+  holds = λ k h. ap (λ f. then_go f (param_specs (one_of in_params d g k) (place ts))) (p.holds k (omega (arith, h))) ∙ ap (λ f. then_go f (param_made (place ts) specs)) (q.holds k (omega (arith, h)));
+}
+
+pub param_fails : (d g : ℕ) (ts : List Token) → Finds (reads_some d g) ts None → Finds (reads_param d g) ts None
+param_fails d g ts p = record { from = p.from; holds = λ k h. ap (λ f. then_go f (param_specs (one_of in_params d g k) (place ts))) (p.holds k h) }
+
+pub param_first_fails : (d g : ℕ) (ts x : List Token) (specs : SpecShapes) → Finds (reads_some d g) ts (Some (specs, x)) → Finds (reads_declarator in_params d g) x None → Finds (reads_param d g) ts None
+param_first_fails d g ts x specs p q = record {
+  from = p.from + q.from;
+  holds = λ k h. ap (λ f. then_go f (param_specs (one_of in_params d g k) (place ts))) (p.holds k (omega (arith, h))) ∙ ap (λ f. then_go f (param_made (place ts) specs)) (q.holds k (omega (arith, h)));
+}
+
+pub params_stop : (d g : ℕ) (ts : List Token) → after marks.Comma ts ≡ None → Finds (reads_params d g) ts (Some (no_decls, ts))
+params_stop d g ts e = find_from (reads_params d g) ts (got no_decls ts) 0 (λ j h. ap (λ o. either_way o (λ r. then_go (reads_param d g j r) (decl_more (λ l. reads_params d g j l))) (got no_decls ts)) e)
+
+pub params_on : (d g : ℕ) (t : DeclShape) (ts r x : List Token) (z : Got DeclShapes) → after marks.Comma ts ≡ Some r → Finds (reads_param d g) r (Some (t, x)) → Finds (reads_params d g) x z → Finds (reads_params d g) ts (then_go z (decl_onto t))
+params_on d g t ts r x z e p q =
+    find_from (reads_params d g) ts (then_go z (decl_onto t)) (p.from + q.from) (λ j h.
+    ap (λ o. either_way o (λ r. then_go (reads_param d g j r) (decl_more (λ l. reads_params d g j l))) (got no_decls ts)) e ∙ ap (λ f. then_go f (decl_more (λ l. reads_params d g j l))) (p.holds j (omega (arith, h))) ∙ ap (λ f. then_go f (decl_onto t)) (q.holds j (omega (arith, h))))
+
+pub params_fail : (d g : ℕ) (ts r : List Token) → after marks.Comma ts ≡ Some r → Finds (reads_param d g) r None → Finds (reads_params d g) ts None
+params_fail d g ts r e p =
+    find_from (reads_params d g) ts None p.from (λ j h. ap (λ o. either_way o (λ r. then_go (reads_param d g j r) (decl_more (λ l. reads_params d g j l))) (got no_decls ts)) e ∙ ap (λ f. then_go f (decl_more (λ l. reads_params d g j l))) (p.holds j h))
+
+pub param_list_found : (d g : ℕ) (t : DeclShape) (ts x : List Token) (z : Got DeclShapes) → Finds (reads_param d g) ts (Some (t, x)) → Finds (reads_params d g) x z → Finds (params_of d g) ts (then_go z (decl_onto t))
+param_list_found d g t ts x z p q = then_found (reads_param d g) (λ k. decl_more (λ r. reads_params d g k r)) ts t x (then_go z (decl_onto t)) p (record { from = q.from; holds = λ k h. ap (λ f. then_go f (decl_onto t)) (q.holds k h) })
+
+pub param_list_fails : (d g : ℕ) (ts : List Token) → Finds (reads_param d g) ts None → Finds (params_of d g) ts None
+param_list_fails d g ts p = then_fails (reads_param d g) (λ k. decl_more (λ r. reads_params d g k r)) ts p
+
+abbrev void_or : ℕ → ℕ → ℕ → List Token → Option (List Token) → Got ParamsShape
+void_or d g k ts o = either_way o (got void) (then_go (params_of d g k ts) params_end)
+
+pub params_empty : (d g : ℕ) (ts r : List Token) → after marks.RightParen ts ≡ Some r → Finds (reads_parameters d g) ts (Some (empty, r))
+params_empty d g ts r e = record { from = 0; holds = λ k h. ap (λ o. either_way o (got empty) (void_or d g k ts (void_ahead ts))) e }
+
+pub params_void : (d g : ℕ) (ts r : List Token) → after marks.RightParen ts ≡ None → void_ahead ts ≡ Some r → Finds (reads_parameters d g) ts (Some (void, r))
+params_void d g ts r e v = record { from = 0; holds = λ k h. ap (λ o. either_way o (got empty) (void_or d g k ts (void_ahead ts))) e ∙ ap (void_or d g k ts) v }
+
+pub params_listed : (d g : ℕ) (ts x y : List Token) (ds : DeclShapes) → after marks.RightParen ts ≡ None → void_ahead ts ≡ None → Finds (params_of d g) ts (Some (ds, x)) → after marks.RightParen x ≡ Some y → Finds (reads_parameters d g) ts (Some (params ds, y))
+params_listed d g ts x y ds e v p c = record {
+  from = p.from;
+  holds = λ k h. ap (λ o. either_way o (got empty) (void_or d g k ts (void_ahead ts))) e ∙ ap (void_or d g k ts) v ∙ ap (λ f. then_go f params_end) (p.holds k h) ∙ ap (wanted (params ds)) c;
+}
+
+pub params_list_fails : (d g : ℕ) (ts : List Token) → after marks.RightParen ts ≡ None → void_ahead ts ≡ None → Finds (params_of d g) ts None → Finds (reads_parameters d g) ts None
+params_list_fails d g ts e v p = record { from = p.from; holds = λ k h. ap (λ o. either_way o (got empty) (void_or d g k ts (void_ahead ts))) e ∙ ap (void_or d g k ts) v ∙ ap (λ f. then_go f params_end) (p.holds k h) }
+
+pub params_open : (d g : ℕ) (ts x : List Token) (ds : DeclShapes) → after marks.RightParen ts ≡ None → void_ahead ts ≡ None → Finds (params_of d g) ts (Some (ds, x)) → after marks.RightParen x ≡ None → Finds (reads_parameters d g) ts None
+params_open d g ts x ds e v p c = record {
+  from = p.from;
+  holds = λ k h. ap (λ o. either_way o (got empty) (void_or d g k ts (void_ahead ts))) e ∙ ap (void_or d g k ts) v ∙ ap (λ f. then_go f params_end) (p.holds k h) ∙ ap (wanted (params ds)) c;
+}
+
+-- INITIALISERS
+
+abbrev init_either : ℕ → ℕ → ℕ → List Token → Option (List Token) → Got InitShape
+init_either d g k ts o = either_way o (λ r. then_go (inits_of d g k r) (listed_end (place ts))) (then_go (reads 1 (suc d) g k ts) init_got)
+
+pub init_deep : (d g : ℕ) (ts : List Token) → 400 ≤ d → Finds (reads_init d g) ts None
+init_deep d g ts high = find_from (reads_init d g) ts None 0 (λ j h. high_none d 400 (init_either d g j ts (after marks.LeftBrace ts)) high)
+
+init_at : (d g : ℕ) (ts : List Token) (o : Option (List Token)) → after marks.LeftBrace ts ≡ o → d < 400 → (j : ℕ) → reads_init d g (suc j) ts ≡ init_either d g j ts o
+init_at d g ts o e low j = low_go d 400 (init_either d g j ts (after marks.LeftBrace ts)) low ∙ ap (init_either d g j ts) e
+
+pub init_one : (d g : ℕ) (a : NodeShape) (ts x : List Token) → d < 400 → after marks.LeftBrace ts ≡ None → Finds (reads 1 (suc d) g) ts (Some (a, x)) → Finds (reads_init d g) ts (Some (one a, x))
+init_one d g a ts x low e p = find_from (reads_init d g) ts (got (one a) x) p.from (λ j h. init_at d g ts None e low j ∙ ap (λ f. then_go f init_got) (p.holds j h))
+
+pub init_one_fails : (d g : ℕ) (ts : List Token) → d < 400 → after marks.LeftBrace ts ≡ None → Finds (reads 1 (suc d) g) ts None → Finds (reads_init d g) ts None
+init_one_fails d g ts low e p = find_from (reads_init d g) ts None p.from (λ j h. init_at d g ts None e low j ∙ ap (λ f. then_go f init_got) (p.holds j h))
+
+pub init_listed : (d g : ℕ) (is' : InitShapes) (ts r x : List Token) (z : Got InitShape) → d < 400 → after marks.LeftBrace ts ≡ Some r → Finds (inits_of d g) r (Some (is', x)) → listed_end (place ts) is' x ≡ z → Finds (reads_init d g) ts z
+init_listed d g is' ts r x z low e p q = find_from (reads_init d g) ts z p.from (λ j h. init_at d g ts (Some r) e low j ∙ ap (λ f. then_go f (listed_end (place ts))) (p.holds j h) ∙ q)
+
+pub init_list_fails : (d g : ℕ) (ts r : List Token) → d < 400 → after marks.LeftBrace ts ≡ Some r → Finds (inits_of d g) r None → Finds (reads_init d g) ts None
+init_list_fails d g ts r low e p = find_from (reads_init d g) ts None p.from (λ j h. init_at d g ts (Some r) e low j ∙ ap (λ f. then_go f (listed_end (place ts))) (p.holds j h))
+
+pub list_found : (d g : ℕ) (i : InitShape) (ts x : List Token) (z : Got InitShapes) → Finds (reads_init (suc d) g) ts (Some (i, x)) → Finds (reads_inits (suc d) g) x z → Finds (inits_of d g) ts (then_go z (init_onto i))
+list_found d g i ts x z p q = then_found (reads_init (suc d) g) (λ k. init_more (λ r. reads_inits (suc d) g k r)) ts i x (then_go z (init_onto i)) p (record { from = q.from; holds = λ k h. ap (λ f. then_go f (init_onto i)) (q.holds k h) })
+
+pub list_fails : (d g : ℕ) (ts : List Token) → Finds (reads_init (suc d) g) ts None → Finds (inits_of d g) ts None
+list_fails d g ts p = then_fails (reads_init (suc d) g) (λ k. init_more (λ r. reads_inits (suc d) g k r)) ts p
+
+pub listed_comma : (p : Pos) (is' : InitShapes) (ts r x : List Token) → after marks.Comma ts ≡ Some r → after marks.RightBrace r ≡ Some x → listed_end p is' ts ≡ Some (listed p is' true, x)
+listed_comma p is' ts r x e c = ap (λ o. either_way o (expect marks.RightBrace (listed p is' true)) (expect marks.RightBrace (listed p is' false) ts)) e ∙ ap (wanted (listed p is' true)) c
+
+pub listed_comma_open : (p : Pos) (is' : InitShapes) (ts r : List Token) → after marks.Comma ts ≡ Some r → after marks.RightBrace r ≡ None → listed_end p is' ts ≡ None
+listed_comma_open p is' ts r e c = ap (λ o. either_way o (expect marks.RightBrace (listed p is' true)) (expect marks.RightBrace (listed p is' false) ts)) e ∙ ap (wanted (listed p is' true)) c
+
+pub listed_plain : (p : Pos) (is' : InitShapes) (ts x : List Token) → after marks.Comma ts ≡ None → after marks.RightBrace ts ≡ Some x → listed_end p is' ts ≡ Some (listed p is' false, x)
+listed_plain p is' ts x e c = ap (λ o. either_way o (expect marks.RightBrace (listed p is' true)) (expect marks.RightBrace (listed p is' false) ts)) e ∙ ap (wanted (listed p is' false)) c
+
+pub listed_open : (p : Pos) (is' : InitShapes) (ts : List Token) → after marks.Comma ts ≡ None → after marks.RightBrace ts ≡ None → listed_end p is' ts ≡ None
+listed_open p is' ts e c = ap (λ o. either_way o (expect marks.RightBrace (listed p is' true)) (expect marks.RightBrace (listed p is' false) ts)) e ∙ ap (wanted (listed p is' false)) c
+
+pub inits_end : (d g : ℕ) (ts : List Token) → further ts ≡ None → Finds (reads_inits d g) ts (Some (no_inits, ts))
+inits_end d g ts e = find_from (reads_inits d g) ts (got no_inits ts) 0 (λ j h. ap (λ o. either_way o (λ r. then_go (reads_init d g j r) (init_more (λ l. reads_inits d g j l))) (got no_inits ts)) e)
+
+pub inits_on : (d g : ℕ) (i : InitShape) (ts r x : List Token) (z : Got InitShapes) → further ts ≡ Some r → Finds (reads_init d g) r (Some (i, x)) → Finds (reads_inits d g) x z → Finds (reads_inits d g) ts (then_go z (init_onto i))
+inits_on d g i ts r x z e p q =
+    find_from (reads_inits d g) ts (then_go z (init_onto i)) (p.from + q.from) (λ j h.
+    ap (λ o. either_way o (λ r. then_go (reads_init d g j r) (init_more (λ l. reads_inits d g j l))) (got no_inits ts)) e ∙ ap (λ f. then_go f (init_more (λ l. reads_inits d g j l))) (p.holds j (omega (arith, h))) ∙ ap (λ f. then_go f (init_onto i)) (q.holds j (omega (arith, h))))
+
+pub inits_fail : (d g : ℕ) (ts r : List Token) → further ts ≡ Some r → Finds (reads_init d g) r None → Finds (reads_inits d g) ts None
+inits_fail d g ts r e p =
+    find_from (reads_inits d g) ts None p.from (λ j h. ap (λ o. either_way o (λ r. then_go (reads_init d g j r) (init_more (λ l. reads_inits d g j l))) (got no_inits ts)) e ∙ ap (λ f. then_go f (init_more (λ l. reads_inits d g j l))) (p.holds j h))
+
+pub end_comma : (ts r x : List Token) → after marks.Comma ts ≡ Some r → after marks.RightBrace r ≡ Some x → (p : Pos) (l : InitShapes) → listed_end p l ts ≡ Some (listed p l true, x)
+end_comma ts r x e c p l = listed_comma p l ts r x e c
+
+pub end_comma_open : (ts r : List Token) → after marks.Comma ts ≡ Some r → after marks.RightBrace r ≡ None → (p : Pos) (l : InitShapes) → listed_end p l ts ≡ None
+end_comma_open ts r e c p l = listed_comma_open p l ts r e c
+
+pub end_plain : (ts x : List Token) → after marks.Comma ts ≡ None → after marks.RightBrace ts ≡ Some x → (p : Pos) (l : InitShapes) → listed_end p l ts ≡ Some (listed p l false, x)
+end_plain ts x e c p l = listed_plain p l ts x e c
+
+pub end_open : (ts : List Token) → after marks.Comma ts ≡ None → after marks.RightBrace ts ≡ None → (p : Pos) (l : InitShapes) → listed_end p l ts ≡ None
+end_open ts e c p l = listed_open p l ts e c

@@ -1,0 +1,14 @@
+pub mod Looking
+pub mod ExprSound
+pub mod DeclSound
+pub mod Sound
+pub mod ExprSteps
+pub mod DeclSteps
+pub mod Leading
+pub mod ListSteps
+pub mod CompleteExpr
+pub mod CompleteLooking
+pub mod CodeSteps
+pub mod CompleteDecl
+pub mod CompleteNames
+pub mod Complete

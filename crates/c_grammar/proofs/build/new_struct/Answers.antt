@@ -1,0 +1,6 @@
+use Rattle.std.proofs.Common.{Some}
+use Rattle.c_syntax.proofs.Open.{struct_open}
+use Rattle.c_grammar.proofs.build.new_struct.Goals as goal
+
+pub returns : goal.returns
+returns c = struct_open c.args.name (Some c.args.list)

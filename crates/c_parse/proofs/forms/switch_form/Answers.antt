@@ -1,5 +1,0 @@
-use Rattle.c_tree.proofs.Open.{switch_open}
-use Rattle.c_parse.proofs.forms.switch_form.Goals as goal
-
-pub returns : goal.returns
-returns c = switch_open c.args.test c.args.items

@@ -1,6 +1,0 @@
-use Rattle.std.proofs.Common.{None}
-use Rattle.c_tree.proofs.Open.{enum_open}
-use Rattle.c_phrase.proofs.build.bare_enum.Goals as goal
-
-pub returns : goal.returns
-returns c = enum_open c.args.name None

@@ -1,6 +1,0 @@
-use Rattle.std.proofs.Common.{None}
-use Rattle.c_tree.proofs.Open.{struct_open}
-use Rattle.c_phrase.proofs.build.bare_struct.Goals as goal
-
-pub returns : goal.returns
-returns c = struct_open c.args.name None

@@ -1,5 +1,0 @@
-use Rattle.c_tree.proofs.Open.{arrays_open}
-use Rattle.c_phrase.proofs.build.new_arrays.Goals as goal
-
-pub returns : goal.returns
-returns c = arrays_open c.args.lengths

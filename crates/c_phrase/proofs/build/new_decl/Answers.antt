@@ -1,5 +1,0 @@
-use Rattle.c_tree.proofs.Made.{decl_made}
-use Rattle.c_phrase.proofs.build.new_decl.Goals as goal
-
-pub returns : goal.returns
-returns c = decl_made c.args.pos c.args.specs c.args.names

@@ -1,5 +1,0 @@
-use Rattle.c_tree.proofs.Open.{inits_open}
-use Rattle.c_phrase.proofs.build.new_list.Goals as goal
-
-pub returns : goal.returns
-returns c = inits_open c.args.pos c.args.list c.args.last

@@ -1,5 +1,0 @@
-use Rattle.c_tree.proofs.Made.{param_made}
-use Rattle.c_phrase.proofs.build.new_param.Goals as goal
-
-pub returns : goal.returns
-returns c = param_made c.args.pos c.args.specs c.args.name

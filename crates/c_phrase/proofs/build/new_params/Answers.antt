@@ -1,5 +1,0 @@
-use Rattle.c_tree.proofs.Open.{params_open}
-use Rattle.c_phrase.proofs.build.new_params.Goals as goal
-
-pub returns : goal.returns
-returns c = params_open c.args.list

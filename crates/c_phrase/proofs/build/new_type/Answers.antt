@@ -1,5 +1,0 @@
-use Rattle.c_tree.proofs.Made.{type_made}
-use Rattle.c_phrase.proofs.build.new_type.Goals as goal
-
-pub returns : goal.returns
-returns c = type_made c.args.pos c.args.specs c.args.stars c.args.lengths

@@ -1,7 +1,0 @@
-use Rattle.std.proofs.Common.{ap}
-use Rattle.c_tree.specs.Shape.{bare, node}
-use Rattle.c_tree.proofs.Open.{call_open}
-use Rattle.c_phrase.proofs.nodes.called.Goals as goal
-
-pub returns : goal.returns
-returns c = ap (node c.args.pos c.args.pos bare) (call_open c.args.name c.args.args)

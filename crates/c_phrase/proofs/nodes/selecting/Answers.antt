@@ -1,5 +1,0 @@
-use Rattle.c_tree.proofs.Open.{select_open}
-use Rattle.c_phrase.proofs.nodes.selecting.Goals as goal
-
-pub returns : goal.returns
-returns c = select_open c.args.number c.args.cases

@@ -1,7 +1,0 @@
-use Rattle.std.proofs.Common.{◌≡◌, ◌++◌, ◌-◌}
-use Rattle.c_tree.specs.Forms.{kinds}
-use Rattle.c_tree.specs.Grammar.{consts_form}
-use Rattle.c_tree.proofs.words.put_consts.Given as goal
-
-abbrev pub invariant-loop : goal.invariant-loop
-invariant-loop l = l.out ++ kinds (consts_form (l.count - l.counter)) ≡ l.initial.out ++ kinds (consts_form l.count)

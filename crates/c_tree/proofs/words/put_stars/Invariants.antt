@@ -1,7 +1,0 @@
-use Rattle.std.proofs.Common.{◌≡◌, ◌++◌, drop}
-use Rattle.c_tree.specs.Forms.{kinds}
-use Rattle.c_tree.specs.Grammar.{stars_form}
-use Rattle.c_tree.proofs.words.put_stars.Given as goal
-
-abbrev pub invariant-loop-star : goal.invariant-loop-star
-invariant-loop-star l = l.out ++ kinds (stars_form (drop l.star-index l.stars)) ≡ l.initial.out ++ kinds (stars_form l.stars)
