@@ -1,0 +1,4 @@
+pub mod Keys
+pub mod Looking
+pub mod Lawful
+pub mod Worked

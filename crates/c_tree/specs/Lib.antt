@@ -1,0 +1,22 @@
+pub mod Tables
+pub mod Builtins
+pub mod State
+pub mod Rulings
+pub mod Sorts
+pub mod Operators
+pub mod Parts
+pub mod Typing
+pub mod Initialisers
+pub mod Declaring
+pub mod Stating
+pub mod Units
+
+pub use Rattle.c_syntax.specs.Shape
+pub use Rattle.c_syntax.specs.View
+pub use Rattle.c_syntax.specs.Forms
+pub use Rattle.c_syntax.specs.Grammar
+pub use Rattle.c_syntax.specs.Levels
+pub use Rattle.c_syntax.specs.Shaped
+pub use Rattle.c_syntax.specs.Options
+pub use Rattle.c_syntax.specs.Start
+pub use Rattle.c_syntax.specs.Fronts

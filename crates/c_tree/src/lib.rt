@@ -1,0 +1,11 @@
+//! The tree of a program and the tables that its types and names point into. What speaks of trees is passed on from c_syntax.
+#![tactic(auto)]
+
+pub mod meaning;
+pub mod numbers;
+pub mod tables;
+
+pub use c_syntax::{height, sentences, text, token, tree};
+
+#[cfg(test)]
+mod tests;

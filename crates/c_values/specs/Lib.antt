@@ -1,0 +1,5 @@
+pub mod Constants
+pub mod Laws
+pub mod Numbers
+pub mod Probes
+pub mod Words
