@@ -1,2 +1,5 @@
 pub mod Rows
 pub mod Worked
+pub mod Again
+pub mod AgainUnits
+pub mod Bare

@@ -151,12 +151,12 @@ abbrev mutual
   pub type_init : Bool → Option TypeOf → InitShape → State → TypedInit
   type_init c k (one a) s = one_init_of (filled (chars_of k) (form_in a)) c k a s
   type_init c k (listed p items last) s =
-      let r = type_items (slots k s) items (step (rule (of_kind k list_rule) s.at p s)) in
+      let r = type_inits (slots k s) items (step (rule (of_kind k list_rule) s.at p s)) in
       record { init = listed p r.inits last; state = steps (list_end last) r.state }
 
   -- each item with the comma or brace behind it
-  pub type_items : Slots → InitShapes → State → TypedInits
-  type_items l no_inits s = record { inits = no_inits; state = s }
-  type_items l (more_inits i rest) s =
+  pub type_inits : Slots → InitShapes → State → TypedInits
+  type_inits l no_inits s = record { inits = no_inits; state = s }
+  type_inits l (more_inits i rest) s =
       let t = type_init true (slot l) i (rule (slot_rule l) s.at (init_pos i) s) in
-      one_item t (type_items (further l) rest (step t.state))
+      one_item t (type_inits (further l) rest (step t.state))

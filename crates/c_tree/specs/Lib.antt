@@ -10,7 +10,7 @@ pub mod Initialisers
 pub mod Declaring
 pub mod Stating
 pub mod Units
-
+pub mod Unnoted
 pub use Rattle.c_syntax.specs.Shape
 pub use Rattle.c_syntax.specs.View
 pub use Rattle.c_syntax.specs.Forms

@@ -59,7 +59,7 @@ literal_number s = if s.quiet then None else Some (length s.tables.literals + 1)
 abbrev pub typed_string : Pos → Text → State → Outcome
 typed_string p t s =
     comes_to (naming (a_value (kind_at (whole s.rooms (string_type t))) Literal) (literal_number s))
-        (step (rule (whole s.rooms (string_type t)) s.at p (with_literal t s)))
+    (step (rule (whole s.rooms (string_type t)) s.at p (with_literal t s)))
 
 abbrev pub variable_constant : ℕ → Constant
 variable_constant owner = if nat_eq owner 0 then Variable else No
@@ -160,7 +160,7 @@ place_rule _ a = unsettled
 abbrev pub typed_unary : ℕ → Pos → ℕ → Pos → UnaryOp → Sort → State → Outcome
 typed_unary token o first p u a s =
     comes_to (plainly (unary_sort u (kind_at (unary_rule u s.rooms a)) a.constant))
-        (rule (unary_rule u s.rooms a) token o (rule (place_rule u a) first p s))
+    (rule (unary_rule u s.rooms a) token o (rule (place_rule u a) first p s))
 
 -- ++ and --, before or behind their operand
 abbrev pub step_rule : List Measure → Sort → Ruled
@@ -238,7 +238,7 @@ element_rule rooms a b = then_rule (by 33 (element_type a.kind b.kind)) (object 
 abbrev pub typed_index : ℕ → Pos → Sort → Sort → State → Outcome
 typed_index token o a b s =
     comes_to (plainly (a_place (kind_at (element_rule s.rooms a b)) (element_constant a.kind a.constant b.kind b.constant)))
-        (step (rule (element_rule s.rooms a b) token o s))
+    (step (rule (element_rule s.rooms a b) token o s))
 
 -- the structure before a point or an arrow
 abbrev pub holder : Access → List Measure → Option TypeOf → Ruled

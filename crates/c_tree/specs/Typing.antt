@@ -7,7 +7,7 @@ use Rattle.c_syntax.specs.declared.tree.UnaryOp.{UnaryOp}
 use Rattle.c_syntax.specs.declared.tree.StepOp.{StepOp}
 use Rattle.c_syntax.specs.declared.tree.StepOp.TheVariants as way
 use Rattle.c_syntax.specs.declared.tree.Named.{Named}
-use Rattle.c_syntax.specs.Shape.{Step, up, down, Probing, TypeOf, int, structure, number, char, str, name, unary, before, size_of, and, or, comma, test, NodeShape, node, ExprShape, leaf, paren, call, prefix, size_of_type, cast, suffix, two, choose, probe, index, field, behind, simple, select, NodeShapes, no_nodes, more_nodes, MaybeNode, no_node, one_node, LengthShapes, no_lengths, more_lengths, TypeShape, type_name, SpecShapes, no_specs, more_specs, word, struct, enum, MaybeDecls, no_members, members, MaybeEnumers, no_rows, rows, EnumerShapes, no_enumers, more_enumers, decl, DeclShapes, no_decls, more_decls, declarator, DeclaratorShapes, no_declarators, more_declarators, arrays, function}
+use Rattle.c_syntax.specs.Shape.{Access, Step, up, down, Probing, TypeOf, int, structure, number, char, str, name, unary, before, size_of, and, or, comma, test, NodeShape, node, ExprShape, leaf, paren, call, prefix, size_of_type, cast, suffix, two, choose, probe, index, field, behind, simple, select, NodeShapes, no_nodes, more_nodes, MaybeNode, no_node, one_node, LengthShapes, no_lengths, more_lengths, TypeShape, type_name, SpecShapes, no_specs, more_specs, word, struct, enum, MaybeDecls, no_members, members, MaybeEnumers, no_rows, rows, EnumerShapes, no_enumers, more_enumers, decl, DeclShapes, no_decls, more_decls, declarator, DeclaratorShapes, no_declarators, more_declarators, arrays, function}
 use Rattle.c_values.specs.Constants as constants
 use Rattle.c_tree.specs.Tables.{FieldShape}
 use Rattle.c_tree.specs.State.{State, steps, step, complain, demand, is_clean, field_type}
@@ -231,3 +231,31 @@ type_select p x cs a s =
     let t = type_cases [] cs (steps 3 (claim test x s.at p s)) in
     let v = type_node a (step t.state) in
     formed (probe (select x t.nodes) v.node) (typed_select s.at p t.values v.sort v.state)
+
+abbrev pub type_paren : NodeShape → State → Formed
+type_paren a s =
+    let t = type_node a (step s) in
+    formed (paren t.node) (typed_paren t.sort t.state)
+
+abbrev pub type_access : Pos → Access → Text → Pos → NodeShape → State → Formed
+type_access o h x q a s =
+    let t = type_node a s in
+    formed (suffix t.node (field h x q)) (typed_field t.state.at o h x q t.sort t.state)
+
+abbrev pub type_type_size : Pos → TypeShape → State → Formed
+type_type_size o y s =
+    let t = type_type y (steps 2 s) in
+    formed (size_of_type t.type) (typed_type_size s.at o t.kind t.state)
+
+abbrev pub type_cast : Pos → TypeShape → NodeShape → State → Formed
+type_cast o y a s =
+    let k = type_type y (step s) in
+    let t = type_node a (step k.state) in
+    formed (cast k.type t.node) (typed_cast s.at o k.kind t.sort t.state)
+
+abbrev pub type_choice : Pos → NodeShape → NodeShape → NodeShape → State → Formed
+type_choice o a b c s =
+    let t = type_node a s in
+    let v = type_node b (step t.state) in
+    let w = type_node c (step v.state) in
+    formed (choose t.node v.node w.node) (typed_choice t.state.at o t.sort v.sort w.sort w.state)

@@ -1,5 +1,5 @@
 -- How a unit is typed (C89, 3.7), what is complained of in it, and which programs there are.
-use Rattle.std.specs.Prelude.{◌≡◌, ℕ, ◌+◌, ◌-◌, ◌*◌, ◌≤◌, All, Contains, List, [], ◌∷◌, ◌++◌, length, map, nat_eq, bytes_eq, Bool, true, false, is_some, Option, Some, None, ◌&&◌, ◌||◌, if◌then◌else◌}
+use Rattle.std.specs.Prelude.{◌≡◌, ℕ, ◌+◌, ◌-◌, ◌*◌, ◌≤◌, All, Contains, List, [], ◌∷◌, ◌++◌, length, map, nat_eq, nat_lt, bytes_eq, Bool, true, false, is_some, Option, Some, None, ◌&&◌, ◌||◌, if◌then◌else◌}
 use Rattle.atac_base.specs.declared.place.Pos.{Pos}
 use Rattle.atac_base.specs.declared.place.IntKind.TheVariants.{Int}
 use Rattle.c_syntax.specs.declared.text.Text.{Text}
@@ -154,8 +154,15 @@ complaints u = (typed_unit u).state.complaints
 
 -- ---- the first complaint: by token, and at one token the lowest number
 
+abbrev pub order : Complaint → ℕ
+order c = c.token * 256 + c.number
+
 abbrev pub comes_before : Complaint → Complaint → Type 0
-comes_before a b = a.token * 256 + a.number ≤ b.token * 256 + b.number
+comes_before a b = order a ≤ order b
+
+-- the one that comes before the other
+abbrev pub earlier : Complaint → Complaint → Complaint
+earlier a b = if nat_lt (order a) (order b) then a else b
 
 -- one of them, and none comes before it
 pub record IsFirst (c : Complaint) (cs : List Complaint) : Type 0 where

@@ -1,6 +1,7 @@
 //! The tree of a program and the tables that its types and names point into. What speaks of trees is passed on from c_syntax.
 #![tactic(auto)]
 
+pub mod complaints;
 pub mod meaning;
 pub mod numbers;
 pub mod tables;
