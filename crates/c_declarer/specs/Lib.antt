@@ -1,0 +1,2 @@
+pub mod LengthView
+pub mod SpelledView

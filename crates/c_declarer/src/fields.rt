@@ -1,0 +1,83 @@
+// The fields of a member list (C89, 3.5.2.1).
+
+ghost use Rattle.std.specs.Prelude.{◌≡◌, map, OnOk, IfOk};
+ghost use Rattle.c_kinds.specs.Kinds.{type_in};
+ghost use Rattle.c_tree.specs.State.{field_type};
+ghost use Rattle.c_tree.specs.Tables.{field_shape};
+ghost use Rattle.c_tree.specs.Parts.{is_free, field_text, name_pos, with_field, field_state};
+ghost use Rattle.c_checker.specs.CheckerView.{state_of};
+
+use atac_base::place::{NoMemory, Pos};
+use c_checker::checker::Checker;
+use c_checker::rows::field_kind;
+use c_kinds::extent::Measured;
+use c_kinds::layout::measured;
+use c_syntax::text::Text;
+use c_syntax::tree::{CType, Named};
+use c_tree::tables::FieldRow;
+
+/// Whether no field has that name.
+pub fn is_free(fields: &[FieldRow], name: &[u8]) -> bool
+    ensures { result ≡ is_free (field_type name.now (map field_shape fields.now)) }
+{
+    field_kind(fields, name).is_none()
+}
+
+/// The name of a declarator, which is empty where there is none.
+pub fn field_text(name: &Option<Named>) -> &[u8]
+    ensures { result.now ≡ field_text name.now }
+{
+    match name {
+        None => &[],
+        Some(name) => name.text.bytes(),
+    }
+}
+
+/// The name's place, or that of the declaration where there is none.
+pub fn name_pos(pos: Pos, name: &Option<Named>) -> Pos
+    ensures { result ≡ name_pos pos name.now }
+{
+    match name {
+        None => pos,
+        Some(name) => name.pos,
+    }
+}
+
+/// A field, which begins at that token: its name is free, and its type complete.
+pub fn field_state(
+    checker: &mut Checker,
+    token: u32,
+    pos: Pos,
+    free: bool,
+    kind: &Option<CType>,
+) -> Result<(), NoMemory>
+    ensures { OnOk result (state_of checker.new ≡ field_state token pos free (type_in kind.now) (state_of checker.old)) }
+{
+    checker.demand(free, 31, token, pos)?;
+    match kind {
+        None => Ok(()),
+        Some(kind) => match measured(kind, &checker.rooms) {
+            Measured::Known(_) => Ok(()),
+            Measured::Incomplete => checker.complain(39, token, pos),
+            Measured::TooLarge => checker.complain(42, token, pos),
+        },
+    }
+}
+
+/// The field stands behind the others, where its name is free and it has a type.
+pub fn add_field(
+    fields: &mut Vec<FieldRow>,
+    free: bool,
+    name: Text,
+    kind: Option<CType>,
+) -> Result<(), NoMemory>
+    ensures { OnOk result (map field_shape fields.new.items ≡ with_field free name (type_in kind) (map field_shape fields.old.items)) }
+{
+    match (free, kind) {
+        (true, Some(kind)) => match fields.push(FieldRow { name, kind }) {
+            Ok(()) => Ok(()),
+            Err(_) => Err(NoMemory),
+        },
+        _ => Ok(()),
+    }
+}
