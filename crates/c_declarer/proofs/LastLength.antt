@@ -1,5 +1,5 @@
 -- Lengths of arrays, from the last one on.
-use Rattle.std.proofs.Common.{◌≡◌, ℕ, zero, suc, ◌+◌, ◌-◌, ◌<◌, ◌≤◌, List, [], ◌∷◌, length, map, take, get_or, Option, refl, ap, ◌∙◌, arith, sub-one}
+use Rattle.std.proofs.Common.{◌≡◌, ℕ, zero, suc, ◌-◌, ◌<◌, ◌≤◌, List, [], ◌∷◌, length, map, take, get_or, Option, refl, ap, arith, sub-one}
 use Rattle.c_syntax.specs.Shape.{TypeOf}
 use Rattle.c_tree.specs.Parts.{array_of, arrays_of}
 use Rattle.c_declarer.specs.declared.lengths.Length.{Length}

@@ -1,5 +1,5 @@
 -- Pointers, a star at a time.
-use Rattle.std.proofs.Common.{◌≡◌, ℕ, zero, suc, ◌+◌, ◌<◌, List, [], ◌∷◌, length, drop, Option, option_map, refl, ap, ◌∙◌, arith, add-one}
+use Rattle.std.proofs.Common.{◌≡◌, ℕ, zero, suc, ◌+◌, ◌<◌, List, [], ◌∷◌, length, drop, Option, option_map, refl, arith, add-one}
 use Rattle.c_syntax.specs.Shape.{TypeOf, pointer}
 use Rattle.c_syntax.specs.declared.tree.Star.{Star}
 use Rattle.c_tree.specs.Parts.{pointed}
