@@ -3,3 +3,4 @@ pub mod Worked
 pub mod Again
 pub mod AgainUnits
 pub mod Bare
+pub mod WorkedUnits
