@@ -4,3 +4,4 @@ pub mod Again
 pub mod AgainUnits
 pub mod Bare
 pub mod WorkedUnits
+pub mod Programs

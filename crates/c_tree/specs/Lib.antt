@@ -10,6 +10,7 @@ pub mod Initialisers
 pub mod Declaring
 pub mod Stating
 pub mod Units
+pub mod Programs
 pub mod Unnoted
 pub use Rattle.c_syntax.specs.Shape
 pub use Rattle.c_syntax.specs.View

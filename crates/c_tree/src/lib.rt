@@ -4,6 +4,7 @@
 pub mod complaints;
 pub mod meaning;
 pub mod numbers;
+pub mod program;
 pub mod tables;
 
 pub use c_syntax::{height, sentences, text, token, tree};
