@@ -9,6 +9,7 @@ use Rattle.c_syntax.specs.declared.token.Token.{Token}
 use Rattle.c_syntax.specs.declared.tree.ProbeMark.{ProbeMark}
 use Rattle.c_syntax.specs.declared.tree.Label.{Label}
 use Rattle.c_syntax.specs.declared.tree.Item.{Item}
+use Rattle.c_syntax.specs.declared.tree.Stmt.{Stmt}
 use Rattle.c_syntax.specs.Forms.{place}
 use Rattle.c_syntax.specs.Shape.{NodeShape, MaybeNode, no_node, one_node, DeclShapes, LabelShape, case, default, StmtShape, stmt, FormShape, compound, simply, when, either, while, do_while, for, switch, break, continue, return, CompoundShape, braces, ItemShapes, no_items}
 use Rattle.c_syntax.specs.Shaped.{in_names}
@@ -280,13 +281,19 @@ labelled_levels : (l : List Label) (h k v n : ℕ) → (length l ≡ 0 → ⊥) 
 labelled_levels [] h k v n e p m i = absurd (e refl)
 labelled_levels (a ∷ l) h k v n e p m i = omega (arith, p, m, i)
 
-pub item_plain : (d h k : ℕ) (i : Item) (ts x y : List Token) → brace_there ts ≡ false → Found (reads_labels d) labels_height ts (map label_shape i.labels.items) k x → length i.labels.items ≡ 0 → Found (reads_stmt d) stmt_height x (stmt_shape i.stmt) h y → ItemFound d ts i h y
-item_plain d h k i ts x y n p e q =
+plain_item : (d h k : ℕ) (i : Item) (ts x y : List Token) → brace_there ts ≡ false → Found (reads_labels d) labels_height ts (map label_shape i.labels.items) k x → length i.labels.items ≡ 0 → Found (reads_stmt d) stmt_height x (stmt_shape i.stmt) h y → ItemFound d ts i h y
+plain_item d h k i ts x y n p e q =
     item_as d d h i ts x y n p.finds (depth_plain d i.labels.items e) q.finds (q.levels ∙ plain_levels i.labels.items (stmt_height (stmt_shape i.stmt)) e)
 
-pub item_labelled : (d h k v n : ℕ) (i : Item) (ts x y : List Token) → brace_there ts ≡ false → Found (reads_labels d) labels_height ts (map label_shape i.labels.items) h x → (length i.labels.items ≡ 0 → ⊥) → Found (reads_stmt (d + 1)) stmt_height x (stmt_shape i.stmt) k y → v ≡ max h k → n ≡ v + 1 → ItemFound d ts i n y
-item_labelled d h k v n i ts x y b p e q m l =
+labelled_item : (d h k v n : ℕ) (i : Item) (ts x y : List Token) → brace_there ts ≡ false → Found (reads_labels d) labels_height ts (map label_shape i.labels.items) h x → (length i.labels.items ≡ 0 → ⊥) → Found (reads_stmt (d + 1)) stmt_height x (stmt_shape i.stmt) k y → v ≡ max h k → n ≡ v + 1 → ItemFound d ts i n y
+labelled_item d h k v n i ts x y b p e q m l =
     item_as d (suc d) n i ts x y b p.finds (omega (arith, depth_labelled d i.labels.items e)) (up reads_stmt d q.finds) (subst (λ k. n ≡ item_height (map label_shape i.labels.items) k) q.levels (labelled_levels i.labels.items h k v n e p.levels m l))
+
+pub item_plain : (d h k : ℕ) (i : Item) (s : Stmt) (ts x y : List Token) → brace_there ts ≡ false → Found (reads_labels d) labels_height ts (map label_shape i.labels.items) k x → length i.labels.items ≡ 0 → i.stmt ≡ s → Found (reads_stmt d) stmt_height x (stmt_shape s) h y → ItemFound d ts i h y
+item_plain d h k i s ts x y n p e same q = plain_item d h k i ts x y n p e (subst (λ s. Found (reads_stmt d) stmt_height x (stmt_shape s) h y) (sym same) q)
+
+pub item_labelled : (d h k v n : ℕ) (i : Item) (s : Stmt) (ts x y : List Token) → brace_there ts ≡ false → Found (reads_labels d) labels_height ts (map label_shape i.labels.items) h x → (length i.labels.items ≡ 0 → ⊥) → i.stmt ≡ s → Found (reads_stmt (d + 1)) stmt_height x (stmt_shape s) k y → v ≡ max h k → n ≡ v + 1 → ItemFound d ts i n y
+item_labelled d h k v n i s ts x y b p e same q m l = labelled_item d h k v n i ts x y b p e (subst (λ s. Found (reads_stmt (d + 1)) stmt_height x (stmt_shape s) k y) (sym same) q) m l
 
 pub item_unlabelled : (d : ℕ) (ts : List Token) → brace_there ts ≡ false → Finds (reads_labels d) ts None → Finds (reads_items d) ts None
 item_unlabelled d ts n p = items_labels_fail d ts (none_there (after marks.RightBrace ts) n) p

@@ -1,15 +1,23 @@
 -- What the code of statements found, in the words of the reader.
-use Rattle.std.specs.Prelude.{◌≡◌, ℕ, suc, max, List, map, None, Bool, is_some}
+use Rattle.std.specs.Prelude.{◌≡◌, ℕ, suc, max, List, map, Option, Some, None, Bool, is_some}
+use Rattle.std.specs.declared.alloc.Global.{Global}
+use Rattle.std.specs.declared.boxed.Box.{Box}
 use Rattle.c_syntax.specs.declared.token.Mark.TheVariants as marks
 use Rattle.c_syntax.specs.declared.token.Key.TheVariants as keys
 use Rattle.c_syntax.specs.declared.token.Token.{Token}
 use Rattle.c_syntax.specs.declared.tree.Item.{Item}
-use Rattle.c_syntax.specs.Shape.{MaybeNode, StmtShape, ItemShapes}
-use Rattle.c_syntax.specs.View.{label_shape, stmt_shape}
+use Rattle.c_syntax.specs.declared.tree.Node.{Node}
+use Rattle.c_syntax.specs.Shape.{MaybeNode, no_node, one_node, StmtShape, ItemShapes}
+use Rattle.c_syntax.specs.View.{node_shape, label_shape, stmt_shape}
 use Rattle.c_syntax.specs.Levels.{maybe_height, item_height, stmt_height}
 use Rattle.c_grammar.specs.Look.{Got, then_go, Finds, after, after_key}
 use Rattle.c_forms.specs.StmtReader.{for_made, item_onto, reads_items, reads_stmt}
 use Rattle.c_forms.specs.StmtParts.{for_parts}
+
+-- an expression in a box, which may be left out
+abbrev pub maybe_inner : Option (Box Node Global) → MaybeNode
+maybe_inner None = no_node
+maybe_inner (Some b) = one_node (node_shape b.value)
 
 -- a closing brace stands at the front
 abbrev pub brace_there : List Token → Bool

@@ -1,14 +1,14 @@
 //! What statements are built of, and the parts of them that hold no statement.
 
 ghost use Rattle.std.specs.Prelude.{◌≡◌, ◌+◌, ◌<◌, ◌≤◌, length, map, Some, None, IfOk, IfSome, IsErrOf, MatchOption};
-ghost use Rattle.c_syntax.specs.Shape.{switch, when, either, while, do_while, for, braces};
+ghost use Rattle.c_syntax.specs.Shape.{case, switch, when, either, while, do_while, for, braces};
 ghost use Rattle.c_syntax.specs.View.{node_shape, maybe_node, decl_list, label_shape, form_shape, stmt_shape, compound_shape, item_list};
 ghost use Rattle.c_syntax.specs.Levels.{height, maybe_height, case_height, labels_height, form_height};
 ghost use Rattle.c_grammar.specs.Look.{Finds, got};
 ghost use Rattle.c_grammar.specs.Found.{Found};
 ghost use Rattle.c_forms.specs.StmtReader.{mark_ahead, reads_marks, reads_labels, reads_form};
 ghost use Rattle.c_forms.specs.StmtParts.{parens, optional, for_parts, label_there, one_label};
-ghost use Rattle.c_forms.specs.StmtFound.{brace_there, NoNest, HeadFound};
+ghost use Rattle.c_forms.specs.StmtFound.{brace_there, maybe_inner, NoNest, HeadFound};
 
 use atac_base::place::Pos;
 use c_grammar::look::{Stop, find_numbered, first_place, past, past_key, past_probe};
@@ -22,73 +22,72 @@ use std::alloc::Global;
 
 // BUILDING
 
-fn boxed(alloc: Global, stmt: Stmt) -> Result<Box<Stmt>, Stop>
-    ensures ok { IfOk result (λ b. b.value ≡ stmt) }
-    ensures err { IsErrOf result Stop.Syntax → ⊥ }
+// An expression that may be left out, out of its box.
+fn unboxed(node: Option<Box<Node>>) -> Option<Node>
+    ensures { maybe_node result ≡ maybe_inner node }
 {
-    match Box::new(alloc, stmt) {
-        Ok(b) => Ok(b),
-        Err(_) => Err(Stop::NoMemory),
+    match node {
+        Some(inner) => Some(Box::into_inner(inner)),
+        None => None,
     }
 }
 
 /// An `if` with no `else`.
 #[tactic(auto, using(c_syntax::proofs::Open::if_open))]
-pub fn when_form(alloc: Global, test: Node, body: Stmt) -> Result<StmtForm, Stop>
-    ensures ok { IfOk result (λ f. form_shape f ≡ when (node_shape test) (stmt_shape body)) }
-    ensures err { IsErrOf result Stop.Syntax → ⊥ }
+pub fn when_form(test: Box<Node>, body: Box<Stmt>) -> StmtForm
+    ensures { form_shape result ≡ when (node_shape test.value) (stmt_shape body.value) }
 {
-    Ok(StmtForm::If(test, boxed(alloc, body)?, None))
+    StmtForm::If(Box::into_inner(test), body, None)
 }
 
 /// An `if` with its `else`.
-pub fn either_form(alloc: Global, test: Node, body: Stmt, last: Stmt) -> Result<StmtForm, Stop>
-    ensures ok { IfOk result (λ f. form_shape f ≡ either (node_shape test) (stmt_shape body) (stmt_shape last)) }
-    ensures err { IsErrOf result Stop.Syntax → ⊥ }
+pub fn either_form(test: Box<Node>, body: Box<Stmt>, last: Box<Stmt>) -> StmtForm
+    ensures { form_shape result ≡ either (node_shape test.value) (stmt_shape body.value) (stmt_shape last.value) }
 {
-    let body = boxed(alloc, body)?;
-    let last = boxed(alloc, last)?;
-    Ok(StmtForm::If(test, body, Some(last)))
+    StmtForm::If(Box::into_inner(test), body, Some(last))
 }
 
 /// A `while`.
-pub fn while_form(alloc: Global, test: Node, body: Stmt) -> Result<StmtForm, Stop>
-    ensures ok { IfOk result (λ f. form_shape f ≡ while (node_shape test) (stmt_shape body)) }
-    ensures err { IsErrOf result Stop.Syntax → ⊥ }
+pub fn while_form(test: Box<Node>, body: Box<Stmt>) -> StmtForm
+    ensures { form_shape result ≡ while (node_shape test.value) (stmt_shape body.value) }
 {
-    Ok(StmtForm::While(test, boxed(alloc, body)?))
+    StmtForm::While(Box::into_inner(test), body)
 }
 
 /// A `do`.
-pub fn do_form(alloc: Global, body: Stmt, test: Node) -> Result<StmtForm, Stop>
-    ensures ok { IfOk result (λ f. form_shape f ≡ do_while (stmt_shape body) (node_shape test)) }
-    ensures err { IsErrOf result Stop.Syntax → ⊥ }
+pub fn do_form(body: Box<Stmt>, test: Box<Node>) -> StmtForm
+    ensures { form_shape result ≡ do_while (stmt_shape body.value) (node_shape test.value) }
 {
-    Ok(StmtForm::Do(boxed(alloc, body)?, test))
+    StmtForm::Do(body, Box::into_inner(test))
 }
 
 /// The three expressions in the parentheses of a `for`, each of which may be left out.
 #[derive(Drop)]
 pub struct ForHead {
-    pub first: Option<Node>,
-    pub test: Option<Node>,
-    pub step: Option<Node>,
+    pub first: Option<Box<Node>>,
+    pub test: Option<Box<Node>>,
+    pub step: Option<Box<Node>>,
 }
 
 /// A `for`.
-pub fn for_form(alloc: Global, head: ForHead, body: Stmt) -> Result<StmtForm, Stop>
-    ensures ok { IfOk result (λ f. form_shape f ≡ for (maybe_node head.first) (maybe_node head.test) (maybe_node head.step) (stmt_shape body)) }
-    ensures err { IsErrOf result Stop.Syntax → ⊥ }
+pub fn for_form(head: ForHead, body: Box<Stmt>) -> StmtForm
+    ensures { form_shape result ≡ for (maybe_inner head.first) (maybe_inner head.test) (maybe_inner head.step) (stmt_shape body.value) }
 {
     let ForHead { first, test, step } = head;
-    Ok(StmtForm::For(first, test, step, boxed(alloc, body)?))
+    StmtForm::For(unboxed(first), unboxed(test), unboxed(step), body)
 }
 
 /// A `switch`.
-pub fn switch_form(test: Node, items: Vec<Item>) -> StmtForm
-    ensures { form_shape result ≡ switch (node_shape test) (item_list items.items) }
+pub fn switch_form(test: Box<Node>, items: Vec<Item>) -> StmtForm
+    ensures { form_shape result ≡ switch (node_shape test.value) (item_list items.items) }
 {
-    StmtForm::Switch(test, items)
+    StmtForm::Switch(Box::into_inner(test), items)
+}
+
+fn case_label(pos: Pos, value: Box<Node>) -> Label
+    ensures { label_shape result ≡ case pos (node_shape value.value) }
+{
+    Label::Case(pos, Box::into_inner(value))
 }
 
 /// A compound, whose brace stands at `pos`.
@@ -157,10 +156,10 @@ pub fn read_parens<'a>(
     alloc: Global,
     depth: u32,
     input: &'a [Token],
-) -> Result<(Node, u32, &'a [Token]), Stop>
+) -> Result<(Box<Node>, u32, &'a [Token]), Stop>
     requires deep { depth ≤ 400 }
     requires tokens { length input.now < 4294967296 }
-    ensures found { IfOk result (λ p. Found (parens depth) height input.now (node_shape p.0) p.1 p.2.now) }
+    ensures found { IfOk result (λ p. Found (parens depth) height input.now (node_shape p.0.value) p.1 p.2.now) }
     ensures low { IfOk result (λ p. p.1 + depth ≤ 400) }
     ensures shorter { IfOk result (λ p. length p.2.now < length input.now) }
     ensures fails { IsErrOf result Stop.Syntax → Finds (parens depth) input.now None }
@@ -182,10 +181,10 @@ pub fn read_optional<'a>(
     mark: Mark,
     depth: u32,
     input: &'a [Token],
-) -> Result<(Option<Node>, u32, &'a [Token]), Stop>
+) -> Result<(Option<Box<Node>>, u32, &'a [Token]), Stop>
     requires deep { depth ≤ 400 }
     requires tokens { length input.now < 4294967296 }
-    ensures found { IfOk result (λ p. Found (optional mark depth) maybe_height input.now (maybe_node p.0) p.1 p.2.now) }
+    ensures found { IfOk result (λ p. Found (optional mark depth) maybe_height input.now (maybe_inner p.0) p.1 p.2.now) }
     ensures low { IfOk result (λ p. p.1 + depth ≤ 400) }
     ensures shorter { IfOk result (λ p. length p.2.now < length input.now) }
     ensures fails { IsErrOf result Stop.Syntax → Finds (optional mark depth) input.now None }
@@ -210,7 +209,7 @@ pub fn read_head<'a>(
 ) -> Result<(ForHead, u32, &'a [Token]), Stop>
     requires deep { depth < 400 }
     requires tokens { length input.now < 4294967296 }
-    ensures found { IfOk result (λ p. HeadFound depth input.now (maybe_node p.0.first) (maybe_node p.0.test) (maybe_node p.0.step) p.1 p.2.now) }
+    ensures found { IfOk result (λ p. HeadFound depth input.now (maybe_inner p.0.first) (maybe_inner p.0.test) (maybe_inner p.0.step) p.1 p.2.now) }
     ensures low { IfOk result (λ p. p.1 + depth < 400) }
     ensures shorter { IfOk result (λ p. length p.2.now < length input.now) }
     ensures fails { IsErrOf result Stop.Syntax → Finds (for_parts depth) input.now None }
@@ -244,7 +243,7 @@ fn read_label<'a>(
     if let Some(behind) = past_key(input, Key::Case) {
         let (value, size, last) = read_node(alloc, 2, depth + 1, 0, behind)?;
         return match past(last, Mark::Colon) {
-            Some(rest) => Ok((Label::Case(pos, value), size.levels, rest)),
+            Some(rest) => Ok((case_label(pos, value), size.levels, rest)),
             None => Err(Stop::Syntax),
         };
     }
@@ -312,8 +311,8 @@ pub fn read_plain<'a>(
     }
     if let Some(behind) = past_key(input, Key::Return) {
         let (value, levels, rest) = read_optional(alloc, Mark::Semicolon, depth + 1, behind)?;
-        return Ok((StmtForm::Return(value), levels, rest));
+        return Ok((StmtForm::Return(unboxed(value)), levels, rest));
     }
     let (value, levels, rest) = read_optional(alloc, Mark::Semicolon, depth + 1, input)?;
-    Ok((StmtForm::Plain(value), levels, rest))
+    Ok((StmtForm::Plain(unboxed(value)), levels, rest))
 }

@@ -1,12 +1,13 @@
 -- What a reader found, with its levels as the code counts them.
 use Rattle.std.specs.Prelude.{◌≡◌, ℕ, List, None, Some, ◌++◌, nat_lt}
+use Rattle.atac_base.specs.declared.place.Pos.{Pos}
 use Rattle.c_syntax.specs.declared.token.Token.{Token}
 use Rattle.c_syntax.specs.declared.tree.Node.{Node}
-use Rattle.c_syntax.specs.Shape.{NodeShape, ProbeShape, NodeShapes, SpecShape, word, DeclShapes, DeclaratorShape}
+use Rattle.c_syntax.specs.Shape.{bare, NodeShape, node, probe, ProbeShape, NodeShapes, SpecShape, word, DeclShapes, DeclaratorShape}
 use Rattle.c_syntax.specs.Levels.{height, nodes_height, cases_height, chain, nodes_chain, cases_chain, maybe_height, declarators_height}
 use Rattle.c_grammar.specs.declared.size.Size.{Size}
 use Rattle.c_grammar.specs.Look.{Got, got, Finds, a_word, is_spec, spec_head, where_true}
-use Rattle.c_grammar.specs.Parts.{LedFrom, constants, closed, structure, enumeration, fields, value}
+use Rattle.c_grammar.specs.Parts.{LedFrom, constants, probed, closed, structure, enumeration, fields, value}
 use Rattle.c_grammar.specs.Reader.{plain_name, declarator_name, behinds, reads_declarators}
 use Rattle.c_grammar.specs.declared.look.SpecStart.{SpecStart}
 use Rattle.c_grammar.specs.declared.look.SpecStart.TheVariants as spec_starts
@@ -52,6 +53,14 @@ pub record LedFails (n d g : ℕ) (before : List Node) (ts : List Token) : Type 
 pub record CasesMeasured (u : ProbeShape) (s : Size) : Type 0 where
   pub levels : s.levels ≡ cases_height u
   pub chain : s.probes ≡ cases_chain u
+
+-- what stands inside a probe at ts, and how deep the probe is: of whatever probe with case constants as deep as c
+pub record InsideFound (n d g : ℕ) (c : Size) (ts : List Token) (a : NodeShape) (s : Size) (rest : List Token) : Type 0 where
+  pub on : (p : Pos) (u : ProbeShape) → CasesMeasured u c → NodeFound (probed n d g p u) ts (node p p bare (probe u a)) s rest
+
+-- no such probe goes on at ts
+pub record InsideFails (n d g : ℕ) (c : Size) (ts : List Token) : Type 0 where
+  pub on : (p : Pos) (u : ProbeShape) → CasesMeasured u c → Finds (probed n d g p u) ts None
 
 -- the case constants at the front of ts
 pub record CasesFound (d g : ℕ) (ts : List Token) (l : NodeShapes) (s : Size) (rest : List Token) : Type 0 where

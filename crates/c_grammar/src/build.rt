@@ -62,19 +62,25 @@ pub fn new_enum(name: Option<Named>, list: Vec<Enumer>) -> SpecForm
     SpecForm::Enum(name, Some(list))
 }
 
-/// An enumerator, whose name stands at `pos`.
-pub fn new_enumer(alloc: Global, pos: Pos, word: &Text, value: Option<Node>) -> Result<Enumer, Stop>
-    ensures named { IfOk result (λ e. (out-Enumer e).name ≡ plain_name pos word.now) }
-    ensures valued { IfOk result (λ e. (out-Enumer e).value ≡ value) }
+/// A name that stands at `pos`, without a probe.
+pub fn bare_name(alloc: Global, pos: Pos, word: &Text) -> Result<Named, Stop>
+    ensures ok { IfOk result (λ n. n ≡ plain_name pos word.now) }
     ensures err { IsErrOf result Stop.Syntax → ⊥ }
 {
     let text = copied(alloc, word)?;
-    let name = Named {
+    Ok(Named {
         pos,
         text,
         probe: None,
-    };
-    Ok(Enumer { name, value })
+    })
+}
+
+/// An enumerator with its value, where it has one.
+pub fn new_enumer(name: Named, value: Option<Node>) -> Enumer
+    ensures named { (out-Enumer result).name ≡ name }
+    ensures valued { (out-Enumer result).value ≡ value }
+{
+    Enumer { name, value }
 }
 
 /// A declaration.
@@ -149,10 +155,10 @@ pub fn new_params(list: Vec<Param>) -> Params
 }
 
 /// An initialiser that is an expression.
-pub fn single_init(node: Node) -> Init
-    ensures { init_shape result ≡ one (node_shape node) }
+pub fn single_init(node: Box<Node>) -> Init
+    ensures { init_shape result ≡ one (node_shape node.value) }
 {
-    Init::One(node)
+    Init::One(Box::into_inner(node))
 }
 
 /// A list of initialisers in braces, and whether a comma stands before the closing brace.

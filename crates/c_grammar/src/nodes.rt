@@ -1,6 +1,6 @@
 ghost use Rattle.std.specs.Prelude.{◌≡◌, ◌≤◌, List, [], ◌∷◌, ◌++◌, Some, None, IfOk, OnOk, IsErrOf};
 ghost use Rattle.c_syntax.specs.Shape.{bare, number, char, str, name, node, leaf, paren, call, prefix, size_of_type, cast, suffix, two, choose, probe, index, field, behind, simple, select};
-ghost use Rattle.c_syntax.specs.View.{node_shape, node_list, type_shape, probe_shape};
+ghost use Rattle.c_syntax.specs.View.{node_shape, node_list, expr_shape, type_shape, probe_shape};
 ghost use Rattle.c_grammar.specs.Reader.{place_of};
 ghost use Rattle.c_grammar.specs.CodeView.{step_of, prefix_of, infix_of, access_of, probing_of};
 
@@ -32,147 +32,128 @@ pub fn put<T: Drop>(list: &mut Vec<T>, item: T) -> Result<(), Stop>
     }
 }
 
-fn boxed(alloc: Global, node: Node) -> Result<Box<Node>, Stop>
-    ensures ok { IfOk result (λ b. b.value ≡ node) }
+/// Appends what stands in a box to a list.
+pub fn put_inner<T: Drop>(list: &mut Vec<T>, item: Box<T>) -> Result<(), Stop>
+    ensures ok { OnOk result (list.new.items ≡ list.old.items ++ item.value ∷ []) }
     ensures err { IsErrOf result Stop.Syntax → ⊥ }
 {
-    match Box::new(alloc, node) {
+    put(list, Box::into_inner(item))
+}
+
+/// A value in a box.
+pub fn boxed<T: Drop>(alloc: Global, value: T) -> Result<Box<T>, Stop>
+    ensures ok { IfOk result (λ b. b.value ≡ value) }
+    ensures err { IsErrOf result Stop.Syntax → ⊥ }
+{
+    match Box::new(alloc, value) {
         Ok(b) => Ok(b),
         Err(_) => Err(Stop::NoMemory),
     }
 }
 
-/// A number.
-pub fn number_node(alloc: Global, pos: Pos, text: &Text) -> Result<Node, Stop>
-    ensures ok { IfOk result (λ n. node_shape n ≡ node pos pos bare (leaf (number text.now))) }
+// An expression of this form, of which nothing is known yet.
+fn made(alloc: Global, pos: Pos, op: Pos, form: Expr) -> Result<Box<Node>, Stop>
+    ensures ok { IfOk result (λ n. node_shape n.value ≡ node pos op bare (expr_shape form)) }
     ensures err { IsErrOf result Stop.Syntax → ⊥ }
 {
-    let form = Expr::Number(copied(alloc, text)?);
-    Ok(Node {
-        pos,
-        op: pos,
-        note: Note::Bare,
-        form,
-    })
+    boxed(
+        alloc,
+        Node {
+            pos,
+            op,
+            note: Note::Bare,
+            form,
+        },
+    )
+}
+
+/// A number.
+pub fn number_node(alloc: Global, pos: Pos, text: &Text) -> Result<Box<Node>, Stop>
+    ensures ok { IfOk result (λ n. node_shape n.value ≡ node pos pos bare (leaf (number text.now))) }
+    ensures err { IsErrOf result Stop.Syntax → ⊥ }
+{
+    made(alloc, pos, pos, Expr::Number(copied(alloc, text)?))
 }
 
 /// A character constant.
-pub fn char_node(pos: Pos, byte: u8) -> Node
-    ensures { node_shape result ≡ node pos pos bare (leaf (char byte)) }
+pub fn char_node(alloc: Global, pos: Pos, byte: u8) -> Result<Box<Node>, Stop>
+    ensures ok { IfOk result (λ n. node_shape n.value ≡ node pos pos bare (leaf (char byte))) }
+    ensures err { IsErrOf result Stop.Syntax → ⊥ }
 {
-    Node {
-        pos,
-        op: pos,
-        note: Note::Bare,
-        form: Expr::Char(byte),
-    }
+    made(alloc, pos, pos, Expr::Char(byte))
 }
 
 /// A string.
-pub fn string_node(alloc: Global, pos: Pos, text: &Text) -> Result<Node, Stop>
-    ensures ok { IfOk result (λ n. node_shape n ≡ node pos pos bare (leaf (str text.now))) }
+pub fn string_node(alloc: Global, pos: Pos, text: &Text) -> Result<Box<Node>, Stop>
+    ensures ok { IfOk result (λ n. node_shape n.value ≡ node pos pos bare (leaf (str text.now))) }
     ensures err { IsErrOf result Stop.Syntax → ⊥ }
 {
-    let form = Expr::Str(copied(alloc, text)?);
-    Ok(Node {
-        pos,
-        op: pos,
-        note: Note::Bare,
-        form,
-    })
+    made(alloc, pos, pos, Expr::Str(copied(alloc, text)?))
 }
 
 /// A name.
-pub fn name_node(alloc: Global, pos: Pos, text: &Text) -> Result<Node, Stop>
-    ensures ok { IfOk result (λ n. node_shape n ≡ node pos pos bare (leaf (name text.now))) }
+pub fn name_node(alloc: Global, pos: Pos, text: &Text) -> Result<Box<Node>, Stop>
+    ensures ok { IfOk result (λ n. node_shape n.value ≡ node pos pos bare (leaf (name text.now))) }
     ensures err { IsErrOf result Stop.Syntax → ⊥ }
 {
-    let form = Expr::Name(copied(alloc, text)?);
-    Ok(Node {
-        pos,
-        op: pos,
-        note: Note::Bare,
-        form,
-    })
+    made(alloc, pos, pos, Expr::Name(copied(alloc, text)?))
 }
 
-fn called(pos: Pos, name: Text, args: Vec<Node>) -> Node
-    ensures { node_shape result ≡ node pos pos bare (call name (node_list args.items)) }
+fn called(name: Text, args: Vec<Node>) -> Expr
+    ensures { expr_shape result ≡ call name (node_list args.items) }
 {
-    Node {
-        pos,
-        op: pos,
-        note: Note::Bare,
-        form: Expr::Call(name, args),
-    }
+    Expr::Call(name, args)
 }
 
 /// A call.
-pub fn call_node(alloc: Global, pos: Pos, name: &Text, args: Vec<Node>) -> Result<Node, Stop>
-    ensures ok { IfOk result (λ n. node_shape n ≡ node pos pos bare (call name.now (node_list args.items))) }
+pub fn call_node(alloc: Global, pos: Pos, name: &Text, args: Vec<Node>) -> Result<Box<Node>, Stop>
+    ensures ok { IfOk result (λ n. node_shape n.value ≡ node pos pos bare (call name.now (node_list args.items))) }
     ensures err { IsErrOf result Stop.Syntax → ⊥ }
 {
-    Ok(called(pos, copied(alloc, name)?, args))
+    made(alloc, pos, pos, called(copied(alloc, name)?, args))
 }
 
 /// An expression in parentheses.
-pub fn paren_node(alloc: Global, pos: Pos, inner: Node) -> Result<Node, Stop>
-    ensures ok { IfOk result (λ n. node_shape n ≡ node pos pos bare (paren (node_shape inner))) }
+pub fn paren_node(alloc: Global, pos: Pos, inner: Box<Node>) -> Result<Box<Node>, Stop>
+    ensures ok { IfOk result (λ n. node_shape n.value ≡ node pos pos bare (paren (node_shape inner.value))) }
     ensures err { IsErrOf result Stop.Syntax → ⊥ }
 {
-    let form = Expr::Paren(boxed(alloc, inner)?);
-    Ok(Node {
-        pos,
-        op: pos,
-        note: Note::Bare,
-        form,
-    })
+    made(alloc, pos, pos, Expr::Paren(inner))
 }
 
 /// An operator in front of its operand.
-pub fn prefix_node(alloc: Global, pos: Pos, op: Prefix, inner: Node) -> Result<Node, Stop>
-    ensures ok { IfOk result (λ n. node_shape n ≡ node pos pos bare (prefix (prefix_of op) (node_shape inner))) }
+pub fn prefix_node(alloc: Global, pos: Pos, op: Prefix, inner: Box<Node>) -> Result<Box<Node>, Stop>
+    ensures ok { IfOk result (λ n. node_shape n.value ≡ node pos pos bare (prefix (prefix_of op) (node_shape inner.value))) }
     ensures err { IsErrOf result Stop.Syntax → ⊥ }
 {
-    let inner = boxed(alloc, inner)?;
     let form = match op {
         Prefix::Unary(op) => Expr::Unary(op, inner),
         Prefix::Before(Step::Up) => Expr::Step(StepOp::PreInc, inner),
         Prefix::Before(Step::Down) => Expr::Step(StepOp::PreDec, inner),
         Prefix::SizeOf => Expr::SizeOf(inner),
     };
-    Ok(Node {
-        pos,
-        op: pos,
-        note: Note::Bare,
-        form,
-    })
+    made(alloc, pos, pos, form)
 }
 
 /// The size of a type.
-pub fn size_node(pos: Pos, type_name: TypeName) -> Node
-    ensures { node_shape result ≡ node pos pos bare (size_of_type (type_shape type_name)) }
+pub fn size_node(alloc: Global, pos: Pos, type_name: TypeName) -> Result<Box<Node>, Stop>
+    ensures ok { IfOk result (λ n. node_shape n.value ≡ node pos pos bare (size_of_type (type_shape type_name))) }
+    ensures err { IsErrOf result Stop.Syntax → ⊥ }
 {
-    Node {
-        pos,
-        op: pos,
-        note: Note::Bare,
-        form: Expr::SizeOfType(type_name),
-    }
+    made(alloc, pos, pos, Expr::SizeOfType(type_name))
 }
 
 /// A cast.
-pub fn cast_node(alloc: Global, pos: Pos, type_name: TypeName, inner: Node) -> Result<Node, Stop>
-    ensures ok { IfOk result (λ n. node_shape n ≡ node pos pos bare (cast (type_shape type_name) (node_shape inner))) }
+pub fn cast_node(
+    alloc: Global,
+    pos: Pos,
+    type_name: TypeName,
+    inner: Box<Node>,
+) -> Result<Box<Node>, Stop>
+    ensures ok { IfOk result (λ n. node_shape n.value ≡ node pos pos bare (cast (type_shape type_name) (node_shape inner.value))) }
     ensures err { IsErrOf result Stop.Syntax → ⊥ }
 {
-    let form = Expr::Cast(type_name, boxed(alloc, inner)?);
-    Ok(Node {
-        pos,
-        op: pos,
-        note: Note::Bare,
-        form,
-    })
+    made(alloc, pos, pos, Expr::Cast(type_name, inner))
 }
 
 /// An operator between two operands.
@@ -180,15 +161,13 @@ pub fn infix_node(
     alloc: Global,
     op_pos: Pos,
     op: Infix,
-    left: Node,
-    right: Node,
-) -> Result<Node, Stop>
-    ensures ok { IfOk result (λ n. node_shape n ≡ node (place_of (node_shape left)) op_pos bare (two (infix_of op) (node_shape left) (node_shape right))) }
+    left: Box<Node>,
+    right: Box<Node>,
+) -> Result<Box<Node>, Stop>
+    ensures ok { IfOk result (λ n. node_shape n.value ≡ node (place_of (node_shape left.value)) op_pos bare (two (infix_of op) (node_shape left.value) (node_shape right.value))) }
     ensures err { IsErrOf result Stop.Syntax → ⊥ }
 {
     let pos = left.pos;
-    let left = boxed(alloc, left)?;
-    let right = boxed(alloc, right)?;
     let form = match op {
         Infix::Plain(op) => Expr::Binary(op, left, right),
         Infix::And => Expr::And(left, right),
@@ -196,48 +175,34 @@ pub fn infix_node(
         Infix::Assign(op) => Expr::Assign(op, left, right),
         Infix::Comma => Expr::Comma(left, right),
     };
-    Ok(Node {
-        pos,
-        op: op_pos,
-        note: Note::Bare,
-        form,
-    })
+    made(alloc, pos, op_pos, form)
 }
 
 /// A choice.
 pub fn choice_node(
     alloc: Global,
     op_pos: Pos,
-    test: Node,
-    yes: Node,
-    no: Node,
-) -> Result<Node, Stop>
-    ensures ok { IfOk result (λ n. node_shape n ≡ node (place_of (node_shape test)) op_pos bare (choose (node_shape test) (node_shape yes) (node_shape no))) }
+    test: Box<Node>,
+    yes: Box<Node>,
+    no: Box<Node>,
+) -> Result<Box<Node>, Stop>
+    ensures ok { IfOk result (λ n. node_shape n.value ≡ node (place_of (node_shape test.value)) op_pos bare (choose (node_shape test.value) (node_shape yes.value) (node_shape no.value))) }
     ensures err { IsErrOf result Stop.Syntax → ⊥ }
 {
-    let pos = test.pos;
-    let form = Expr::Cond(boxed(alloc, test)?, boxed(alloc, yes)?, boxed(alloc, no)?);
-    Ok(Node {
-        pos,
-        op: op_pos,
-        note: Note::Bare,
-        form,
-    })
+    made(alloc, test.pos, op_pos, Expr::Cond(test, yes, no))
 }
 
 /// An element.
-pub fn index_node(alloc: Global, op_pos: Pos, left: Node, inner: Node) -> Result<Node, Stop>
-    ensures ok { IfOk result (λ n. node_shape n ≡ node (place_of (node_shape left)) op_pos bare (suffix (node_shape left) (index (node_shape inner)))) }
+pub fn index_node(
+    alloc: Global,
+    op_pos: Pos,
+    left: Box<Node>,
+    inner: Box<Node>,
+) -> Result<Box<Node>, Stop>
+    ensures ok { IfOk result (λ n. node_shape n.value ≡ node (place_of (node_shape left.value)) op_pos bare (suffix (node_shape left.value) (index (node_shape inner.value)))) }
     ensures err { IsErrOf result Stop.Syntax → ⊥ }
 {
-    let pos = left.pos;
-    let form = Expr::Index(boxed(alloc, left)?, boxed(alloc, inner)?);
-    Ok(Node {
-        pos,
-        op: op_pos,
-        note: Note::Bare,
-        form,
-    })
+    made(alloc, left.pos, op_pos, Expr::Index(left, inner))
 }
 
 /// A field.
@@ -245,49 +210,37 @@ pub fn field_node(
     alloc: Global,
     op_pos: Pos,
     access: Access,
-    left: Node,
+    left: Box<Node>,
     name: &Text,
     name_pos: Pos,
-) -> Result<Node, Stop>
-    ensures ok { IfOk result (λ n. node_shape n ≡ node (place_of (node_shape left)) op_pos bare (suffix (node_shape left) (field (access_of access) name.now name_pos))) }
+) -> Result<Box<Node>, Stop>
+    ensures ok { IfOk result (λ n. node_shape n.value ≡ node (place_of (node_shape left.value)) op_pos bare (suffix (node_shape left.value) (field (access_of access) name.now name_pos))) }
     ensures err { IsErrOf result Stop.Syntax → ⊥ }
 {
     let pos = left.pos;
-    let left = boxed(alloc, left)?;
     let name = copied(alloc, name)?;
     let form = match access {
         Access::Dot => Expr::Member(left, name, name_pos),
         Access::Arrow => Expr::Arrow(left, name, name_pos),
     };
-    Ok(Node {
-        pos,
-        op: op_pos,
-        note: Note::Bare,
-        form,
-    })
+    made(alloc, pos, op_pos, form)
 }
 
 /// A step behind its operand.
-pub fn step_node(alloc: Global, op_pos: Pos, step: Step, left: Node) -> Result<Node, Stop>
-    ensures ok { IfOk result (λ n. node_shape n ≡ node (place_of (node_shape left)) op_pos bare (suffix (node_shape left) (behind (step_of step)))) }
+pub fn step_node(alloc: Global, op_pos: Pos, step: Step, left: Box<Node>) -> Result<Box<Node>, Stop>
+    ensures ok { IfOk result (λ n. node_shape n.value ≡ node (place_of (node_shape left.value)) op_pos bare (suffix (node_shape left.value) (behind (step_of step)))) }
     ensures err { IsErrOf result Stop.Syntax → ⊥ }
 {
     let pos = left.pos;
-    let left = boxed(alloc, left)?;
     let form = match step {
         Step::Up => Expr::Step(StepOp::PostInc, left),
         Step::Down => Expr::Step(StepOp::PostDec, left),
     };
-    Ok(Node {
-        pos,
-        op: op_pos,
-        note: Note::Bare,
-        form,
-    })
+    made(alloc, pos, op_pos, form)
 }
 
-/// A probe with no case constants.
-pub fn simple_probe(alloc: Global, probing: Probing, number: &Text) -> Result<ExprProbe, Stop>
+// A probe with this number and no case constants.
+fn simple_probe(alloc: Global, probing: Probing, number: &Text) -> Result<ExprProbe, Stop>
     ensures ok { IfOk result (λ p. probe_shape p ≡ simple (probing_of probing) number.now) }
     ensures err { IsErrOf result Stop.Syntax → ⊥ }
 {
@@ -306,24 +259,37 @@ fn selecting(number: Text, cases: Vec<Node>) -> ExprProbe
     ExprProbe::Select(number, cases)
 }
 
-/// A probe of a `switch`, with its case constants.
-pub fn select_probe(alloc: Global, number: &Text, cases: Vec<Node>) -> Result<ExprProbe, Stop>
-    ensures ok { IfOk result (λ p. probe_shape p ≡ select number.now (node_list cases.items)) }
+/// A probe with no case constants round an expression.
+pub fn simple_node(
+    alloc: Global,
+    pos: Pos,
+    probing: Probing,
+    number: &Text,
+    inner: Box<Node>,
+) -> Result<Box<Node>, Stop>
+    ensures ok { IfOk result (λ n. node_shape n.value ≡ node pos pos bare (probe (simple (probing_of probing) number.now) (node_shape inner.value))) }
     ensures err { IsErrOf result Stop.Syntax → ⊥ }
 {
-    Ok(selecting(copied(alloc, number)?, cases))
+    let form = simple_probe(alloc, probing, number)?;
+    made(alloc, pos, pos, Expr::Probe(form, inner))
 }
 
-/// A probe round an expression.
-pub fn probe_node(alloc: Global, pos: Pos, form: ExprProbe, inner: Node) -> Result<Node, Stop>
-    ensures ok { IfOk result (λ n. node_shape n ≡ node pos pos bare (probe (probe_shape form) (node_shape inner))) }
+/// The probe of a `switch`, with its case constants, round an expression.
+pub fn select_node(
+    alloc: Global,
+    pos: Pos,
+    number: &Text,
+    cases: Vec<Node>,
+    inner: Box<Node>,
+) -> Result<Box<Node>, Stop>
+    ensures ok { IfOk result (λ n. node_shape n.value ≡ node pos pos bare (probe (select number.now (node_list cases.items)) (node_shape inner.value))) }
     ensures err { IsErrOf result Stop.Syntax → ⊥ }
 {
-    let form = Expr::Probe(form, boxed(alloc, inner)?);
-    Ok(Node {
+    let number = copied(alloc, number)?;
+    made(
+        alloc,
         pos,
-        op: pos,
-        note: Note::Bare,
-        form,
-    })
+        pos,
+        Expr::Probe(selecting(number, cases), inner),
+    )
 }

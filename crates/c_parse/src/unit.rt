@@ -14,7 +14,7 @@ use crate::refusal::ParseRefusal;
 use atac_base::place::Pos;
 use c_forms::forms::read_marks;
 use c_grammar::look::{Standing, Stop, find_string, first_place, past, past_probe};
-use c_grammar::nodes::{copied, put};
+use c_grammar::nodes::{boxed, copied, put};
 use c_grammar::size::higher;
 use c_phrase::decl::{read_declarator, read_declaring};
 use c_phrase::spec::read_specifiers;
@@ -97,19 +97,20 @@ fn nameless(alloc: Global, pos: Pos, specs: Vec<Spec>) -> Decl
 fn read_function<'a>(
     alloc: Global,
     specs: Vec<Spec>,
-    name: Declarator,
+    name: Box<Declarator>,
     input: &'a [Token],
 ) -> Result<(External, &'a [Token]), Stop>
     requires tokens { length input.now < 4294967296 }
-    ensures found { IfOk result (λ p. Finds (function_parts (spec_list specs.items) (declarator_shape name)) input.now (Some (external_shape p.0, p.1.now))) }
+    ensures found { IfOk result (λ p. Finds (function_parts (spec_list specs.items) (declarator_shape name.value)) input.now (Some (external_shape p.0, p.1.now))) }
     ensures no_longer { IfOk result (λ p. length p.1.now ≤ length input.now) }
-    ensures fails { IsErrOf result Stop.Syntax → Finds (function_parts (spec_list specs.items) (declarator_shape name)) input.now None }
+    ensures fails { IsErrOf result Stop.Syntax → Finds (function_parts (spec_list specs.items) (declarator_shape name.value)) input.now None }
 {
     let (marks, last) = read_marks(alloc, input)?;
     let Some(inside) = past(last, Mark::LeftBrace) else {
         return Err(Stop::Syntax);
     };
     let (body, _levels, rest) = read_compound(alloc, 1, first_place(last), inside)?;
+    let name = Box::into_inner(name);
     Ok((External::Function(specs, name, marks, body), rest))
 }
 
@@ -131,7 +132,7 @@ fn read_behind<'a>(
     ensures fails { IsErrOf result Stop.Syntax → Finds (external_rest pos (spec_list specs.items) (declarator_shape name)) input.now None }
 {
     if begins_function(&name, input) {
-        return read_function(alloc, specs, name, input);
+        return read_function(alloc, specs, boxed(alloc, name)?, input);
     }
     let (decl, _levels, rest) = read_declaring(
         alloc,

@@ -16,7 +16,7 @@ use Rattle.c_grammar.specs.declared.size.Size.{Size}
 use Rattle.c_grammar.specs.Look.{Got, got, then_go, Finds, after, a_word, Oper, infix_oper, question, bracket, access, step, open_paren, Sign, a_sign, no_sign, sign, at_leaf, at_prefix, at_paren, at_simple, at_select, start, type_ahead}
 use Rattle.c_grammar.specs.Reader.{place_of, leaf_at, type_behind, numbered, takes, choose_on, choose_from, index_on, paren_at, below, reads_type, reads, climbs, reads_led, fronts}
 use Rattle.c_grammar.specs.Parts.{closed, grown, whole, arguments, typed, probed, constants, listing, LedFrom}
-use Rattle.c_grammar.specs.Found.{Measured, NodeFound, Found, AllMeasured, LedFound, LedFails, CasesMeasured, CasesFound}
+use Rattle.c_grammar.specs.Found.{Measured, NodeFound, Found, AllMeasured, LedFound, LedFails, CasesMeasured, CasesFound, InsideFound, InsideFails}
 use Rattle.c_grammar.proofs.ExprSteps.{by_paren, front_select_open, then_found, then_fails, closed_found, closed_fails, closed_open, climb_on, climb_fails, climb_high, climb_end, climb_stop, read_on, read_fails, read_loose, read_deep, grow_infix, grow_infix_fails, grow_choose, grow_choose_fails, grow_choose_open, grow_choose_last, grow_index, grow_index_fails, grow_field, grow_field_fails, grow_step, grow_paren, arguments_none, arguments_some, arguments_fail, arguments_open, front_none, front_number, front_char, front_str, front_name, front_call, front_call_fails, front_prefix, front_prefix_fails, front_size, front_size_fails, front_paren, front_paren_fails, front_cast, front_cast_fails, front_cast_last, probed_found, probed_many, probed_fails, probed_open, front_simple, front_select}
 use Rattle.c_grammar.proofs.ListSteps.{led_start, listing_start, led_more, led_done, led_failed, nodes_now, chains_now}
 use Rattle.c_grammar.proofs.CodeSteps.{listing_fails, typed_found, typed_fails, typed_open}
@@ -137,6 +137,12 @@ ends_there n a ts e d g = climb_end n d g a ts e
 
 pub stops_there : (n : ℕ) (a : NodeShape) (ts r : List Token) (o : Oper) → sign ts ≡ a_sign o r → takes n a o ≡ false → (d g : ℕ) → Finds (climbs n d g a) ts (Some (a, ts))
 stops_there n a ts r o e t d g = climb_stop n d g a ts r o e t
+
+pub takes_inner : (n : ℕ) (a b : Node) (o : Oper) (ts r : List Token) → a ≡ b → (sign ts ≡ a_sign o r) × (takes n (node_shape a) o ≡ true) → (sign ts ≡ a_sign o r) × (takes n (node_shape b) o ≡ true)
+takes_inner n a b o ts r e p = subst (λ x. (sign ts ≡ a_sign o r) × (takes n (node_shape x) o ≡ true)) e p
+
+pub level_inner : (h : ℕ) (a b : Node) → a ≡ b → h ≡ level (node_shape a) → h ≡ level (node_shape b)
+level_inner h a b e p = subst (λ x. h ≡ level (node_shape x)) e p
 
 -- WHOLE EXPRESSIONS
 
@@ -277,41 +283,54 @@ cast_unended d g h t ts r y x e b f p = front_cast_last d g ts r y x t e b f.fin
 
 -- PROBES
 
-pub simple_measured : (f : ProbeShape) (u : Probing) (n : Text) (s : Size) → f ≡ simple u n → s.levels ≡ 0 → s.probes ≡ 0 → CasesMeasured f s
-simple_measured f u n s e h c = record { levels = h ∙ sym (ap cases_height e); chain = c ∙ sym (ap cases_chain e) }
+simple_measured : (u : Probing) (n : Text) (s : Size) → s.levels ≡ 0 → s.probes ≡ 0 → CasesMeasured (simple u n) s
+simple_measured u n s h c = record { levels = h; chain = c }
 
-pub select_measured : (f : ProbeShape) (n : Text) (l : NodeShapes) (d g : ℕ) (s : Size) (ts rest : List Token) → f ≡ select n l → CasesFound d g ts l s rest → CasesMeasured f s
-select_measured f n l d g s ts rest e p = record { levels = p.size.levels ∙ sym (ap cases_height e); chain = p.size.chain ∙ sym (ap cases_chain e) }
+select_measured : (n : Text) (l : NodeShapes) (d g : ℕ) (s : Size) (ts rest : List Token) → CasesFound d g ts l s rest → CasesMeasured (select n l) s
+select_measured n l d g s ts rest p = record { levels = p.size.levels; chain = p.size.chain }
 
-pub probed_read : (n d g : ℕ) (q : Pos) (u : ProbeShape) (a b : NodeShape) (c s z : Size) (ts x y : List Token) → NodeFound (reads n d (g + 1)) ts a s x → after marks.RightParen x ≡ Some y → CasesMeasured u c → max c.probes s.probes < 4 → b ≡ node q q bare (probe u a) → z.levels ≡ max c.levels s.levels → z.probes ≡ max c.probes s.probes + 1 → NodeFound (probed n d g q u) ts b z y
+probed_read : (n d g : ℕ) (q : Pos) (u : ProbeShape) (a b : NodeShape) (c s z : Size) (ts x y : List Token) → NodeFound (reads n d (g + 1)) ts a s x → after marks.RightParen x ≡ Some y → CasesMeasured u c → max c.probes s.probes < 4 → b ≡ node q q bare (probe u a) → z.levels ≡ max c.levels s.levels → z.probes ≡ max c.probes s.probes + 1 → NodeFound (probed n d g q u) ts b z y
 probed_read n d g q u a b c s z ts x y f e m few same h p =
     found_as (probed n d g q u) ts (node q q bare (probe u a)) b z y same (probed_found n d g q u a ts x y (inner_down n d g ts (got a x) f.finds) e (subst (λ n. n < 4) (rw (m.chain, f.size.chain)) few)) (rw (h, m.levels, f.size.levels)) (next_level z.probes (max c.probes s.probes) (max (cases_chain u) (chain a)) p (rw (m.chain, f.size.chain)))
 
-pub probed_too_many : (n d g : ℕ) (q : Pos) (u : ProbeShape) (a : NodeShape) (c s : Size) (ts x y : List Token) → NodeFound (reads n d (g + 1)) ts a s x → after marks.RightParen x ≡ Some y → CasesMeasured u c → 4 ≤ max c.probes s.probes → Finds (probed n d g q u) ts None
+probed_too_many : (n d g : ℕ) (q : Pos) (u : ProbeShape) (a : NodeShape) (c s : Size) (ts x y : List Token) → NodeFound (reads n d (g + 1)) ts a s x → after marks.RightParen x ≡ Some y → CasesMeasured u c → 4 ≤ max c.probes s.probes → Finds (probed n d g q u) ts None
 probed_too_many n d g q u a c s ts x y f e m many = probed_many n d g q u a ts x y (inner_down n d g ts (got a x) f.finds) e (subst (λ n. 4 ≤ n) (rw (m.chain, f.size.chain)) many)
 
-pub probed_unread : (n d g : ℕ) (q : Pos) (u : ProbeShape) (ts : List Token) → Finds (reads n d (g + 1)) ts None → Finds (probed n d g q u) ts None
+probed_unread : (n d g : ℕ) (q : Pos) (u : ProbeShape) (ts : List Token) → Finds (reads n d (g + 1)) ts None → Finds (probed n d g q u) ts None
 probed_unread n d g q u ts p = probed_fails n d g q u ts (inner_down n d g ts None p)
 
-pub probed_unclosed : (n d g : ℕ) (q : Pos) (u : ProbeShape) (a : NodeShape) (s : Size) (ts x : List Token) → NodeFound (reads n d (g + 1)) ts a s x → after marks.RightParen x ≡ None → Finds (probed n d g q u) ts None
+probed_unclosed : (n d g : ℕ) (q : Pos) (u : ProbeShape) (a : NodeShape) (s : Size) (ts x : List Token) → NodeFound (reads n d (g + 1)) ts a s x → after marks.RightParen x ≡ None → Finds (probed n d g q u) ts None
 probed_unclosed n d g q u a s ts x f e = probed_open n d g q u a ts x (inner_down n d g ts (got a x) f.finds) e
 
-pub simple_read : (d g l : ℕ) (q : Pos) (a : NodeShape) (f : ProbeShape) (s : Size) (u : Probing) (n : Text) (ts r x y z : List Token) → start ts ≡ at_simple u r → q ≡ place ts → g < 1600 → numbered r ≡ Some (n, x) → after marks.Comma x ≡ Some y → l ≡ probe_least u → f ≡ simple u n → NodeFound (probed l d g q f) y a s z → NodeFound (fronts d g) ts a s z
-simple_read d g l q a f s u n ts r x y z e at' few m c h same p =
-    let q : Finds (probed (probe_least u) d g (place ts) (simple u n)) y (got a z) = subst (λ l. Finds (probed l d g (place ts) (simple u n)) y (got a z)) h (subst (λ f. Finds (probed l d g (place ts) f) y (got a z)) same (subst (λ q. Finds (probed l d g q f) y (got a z)) at' p.finds)) in
-    record { finds = front_simple d g ts r x y u n (got a z) e few m c q; size = p.size }
+pub inside_read : (n d g : ℕ) (a : NodeShape) (c s z : Size) (ts x y : List Token) → NodeFound (reads n d (g + 1)) ts a s x → after marks.RightParen x ≡ Some y → max c.probes s.probes < 4 → z.levels ≡ max c.levels s.levels → z.probes ≡ max c.probes s.probes + 1 → InsideFound n d g c ts a z y
+inside_read n d g a c s z ts x y f e few h p = record { on = λ q u m. probed_read n d g q u a (node q q bare (probe u a)) c s z ts x y f e m few refl h p }
 
-pub simple_unread : (d g l : ℕ) (q : Pos) (f : ProbeShape) (u : Probing) (n : Text) (ts r x y : List Token) → start ts ≡ at_simple u r → q ≡ place ts → g < 1600 → numbered r ≡ Some (n, x) → after marks.Comma x ≡ Some y → l ≡ probe_least u → f ≡ simple u n → Finds (probed l d g q f) y None → Finds (fronts d g) ts None
-simple_unread d g l q f u n ts r x y e at' few m c h same p =
-    let q : Finds (probed (probe_least u) d g (place ts) (simple u n)) y None = subst (λ l. Finds (probed l d g (place ts) (simple u n)) y None) h (subst (λ f. Finds (probed l d g (place ts) f) y None) same (subst (λ q. Finds (probed l d g q f) y None) at' p)) in
-    front_simple d g ts r x y u n None e few m c q
+pub inside_too_many : (n d g : ℕ) (a : NodeShape) (c s : Size) (ts x y : List Token) → NodeFound (reads n d (g + 1)) ts a s x → after marks.RightParen x ≡ Some y → 4 ≤ max c.probes s.probes → InsideFails n d g c ts
+inside_too_many n d g a c s ts x y f e many = record { on = λ q u m. probed_too_many n d g q u a c s ts x y f e m many }
 
-pub select_read : (d g : ℕ) (q : Pos) (a : NodeShape) (f : ProbeShape) (l : NodeShapes) (s t : Size) (n : Text) (ts r x y w z : List Token) → start ts ≡ at_select r → q ≡ place ts → g < 1600 → numbered r ≡ Some (n, x) → CasesFound d g x l s y → after marks.Semicolon y ≡ Some w → f ≡ select n l → NodeFound (probed 0 d g q f) w a t z → NodeFound (fronts d g) ts a t z
-select_read d g q a f l s t n ts r x y w z e at' few m k c same p =
-    record { finds = front_select d g ts r x y w n l (got a z) e few m k.finds c (subst (λ f. Finds (probed 0 d g (place ts) f) w (got a z)) same (subst (λ q. Finds (probed 0 d g q f) w (got a z)) at' p.finds)); size = p.size }
+pub inside_unread : (n d g : ℕ) (c : Size) (ts : List Token) → Finds (reads n d (g + 1)) ts None → InsideFails n d g c ts
+inside_unread n d g c ts p = record { on = λ q u m. probed_unread n d g q u ts p }
 
-pub select_unread : (d g : ℕ) (q : Pos) (f : ProbeShape) (l : NodeShapes) (s : Size) (n : Text) (ts r x y w : List Token) → start ts ≡ at_select r → q ≡ place ts → g < 1600 → numbered r ≡ Some (n, x) → CasesFound d g x l s y → after marks.Semicolon y ≡ Some w → f ≡ select n l → Finds (probed 0 d g q f) w None → Finds (fronts d g) ts None
-select_unread d g q f l s n ts r x y w e at' few m k c same p = front_select d g ts r x y w n l None e few m k.finds c (subst (λ f. Finds (probed 0 d g (place ts) f) w None) same (subst (λ q. Finds (probed 0 d g q f) w None) at' p))
+pub inside_unclosed : (n d g : ℕ) (a : NodeShape) (c s : Size) (ts x : List Token) → NodeFound (reads n d (g + 1)) ts a s x → after marks.RightParen x ≡ None → InsideFails n d g c ts
+inside_unclosed n d g a c s ts x f e = record { on = λ q u m. probed_unclosed n d g q u a s ts x f e }
+
+pub simple_read : (d g l : ℕ) (q : Pos) (a b : NodeShape) (c s : Size) (u : Probing) (n : Text) (ts r x y z : List Token) → start ts ≡ at_simple u r → q ≡ place ts → g < 1600 → numbered r ≡ Some (n, x) → after marks.Comma x ≡ Some y → l ≡ probe_least u → c.levels ≡ 0 → c.probes ≡ 0 → InsideFound l d g c y a s z → b ≡ node q q bare (probe (simple u n) a) → NodeFound (fronts d g) ts b s z
+simple_read d g l q a b c s u n ts r x y z e at' few m k h v w p same =
+    let f = p.on (place ts) (simple u n) (simple_measured u n c v w) in
+    found_as (fronts d g) ts (node (place ts) (place ts) bare (probe (simple u n) a)) b s z (same ∙ ap (λ q. node q q bare (probe (simple u n) a)) at') (front_simple d g ts r x y u n (got (node (place ts) (place ts) bare (probe (simple u n) a)) z) e few m k (subst (λ l. Finds (probed l d g (place ts) (simple u n)) y (got (node (place ts) (place ts) bare (probe (simple u n) a)) z)) h f.finds)) f.size.levels f.size.chain
+
+pub simple_unread : (d g l : ℕ) (c : Size) (u : Probing) (n : Text) (ts r x y : List Token) → start ts ≡ at_simple u r → g < 1600 → numbered r ≡ Some (n, x) → after marks.Comma x ≡ Some y → l ≡ probe_least u → c.levels ≡ 0 → c.probes ≡ 0 → InsideFails l d g c y → Finds (fronts d g) ts None
+simple_unread d g l c u n ts r x y e few m k h v w p =
+    front_simple d g ts r x y u n None e few m k (subst (λ l. Finds (probed l d g (place ts) (simple u n)) y None) h (p.on (place ts) (simple u n) (simple_measured u n c v w)))
+
+pub select_read : (d g : ℕ) (q : Pos) (a b : NodeShape) (l : NodeShapes) (s t : Size) (n : Text) (ts r x y w z : List Token) → start ts ≡ at_select r → q ≡ place ts → g < 1600 → numbered r ≡ Some (n, x) → CasesFound d g x l s y → after marks.Semicolon y ≡ Some w → InsideFound 0 d g s w a t z → b ≡ node q q bare (probe (select n l) a) → NodeFound (fronts d g) ts b t z
+select_read d g q a b l s t n ts r x y w z e at' few m k c p same =
+    let f = p.on (place ts) (select n l) (select_measured n l d g s x y k) in
+    found_as (fronts d g) ts (node (place ts) (place ts) bare (probe (select n l) a)) b t z (same ∙ ap (λ q. node q q bare (probe (select n l) a)) at') (front_select d g ts r x y w n l (got (node (place ts) (place ts) bare (probe (select n l) a)) z) e few m k.finds c f.finds) f.size.levels f.size.chain
+
+pub select_unread : (d g : ℕ) (l : NodeShapes) (s : Size) (n : Text) (ts r x y w : List Token) → start ts ≡ at_select r → g < 1600 → numbered r ≡ Some (n, x) → CasesFound d g x l s y → after marks.Semicolon y ≡ Some w → InsideFails 0 d g s w → Finds (fronts d g) ts None
+select_unread d g l s n ts r x y w e few m k c p =
+    front_select d g ts r x y w n l None e few m k.finds c (p.on (place ts) (select n l) (select_measured n l d g s x y k))
 
 pub select_unended : (d g : ℕ) (l : NodeShapes) (s : Size) (n : Text) (ts r x y : List Token) → start ts ≡ at_select r → g < 1600 → numbered r ≡ Some (n, x) → CasesFound d g x l s y → after marks.Semicolon y ≡ None → Finds (fronts d g) ts None
 select_unended d g l s n ts r x y e few m k c = front_select_open d g ts r x y n l e few m k.finds c

@@ -1,11 +1,11 @@
 ghost use Rattle.std.specs.Prelude.{◌≡◌, ℕ, suc, ◌+◌, ◌<◌, ◌≤◌, List, length, true, Some, None, IfOk, IsErrOf, MatchOption};
 ghost use Rattle.c_syntax.specs.Shape.{name};
 ghost use Rattle.c_syntax.specs.Levels.{height, cases_height, cases_chain, nodes_height, type_height};
-ghost use Rattle.c_syntax.specs.View.{node_shape, node_list, probe_shape, type_shape};
+ghost use Rattle.c_syntax.specs.View.{node_shape, node_list, type_shape};
 ghost use Rattle.c_grammar.specs.Look.{Finds, infix_oper, question, bracket, access, step, sign, a_sign, start, at_leaf, at_prefix, at_paren, at_simple, at_select, type_ahead};
 ghost use Rattle.c_grammar.specs.Reader.{takes, reads, climbs, fronts};
-ghost use Rattle.c_grammar.specs.Parts.{closed, grown, whole, arguments, typed, probed, constants};
-ghost use Rattle.c_grammar.specs.Found.{Measured, NodeFound, Found, AllMeasured, LedFound, LedFails, CasesMeasured, CasesFound};
+ghost use Rattle.c_grammar.specs.Parts.{closed, grown, whole, arguments, typed, constants};
+ghost use Rattle.c_grammar.specs.Found.{Measured, NodeFound, Found, AllMeasured, LedFound, LedFails, CasesFound, InsideFound, InsideFails};
 ghost use Rattle.c_grammar.specs.CodeView.{oper_of, infix_of, access_of, step_of, prefix_of, probing_of};
 
 use crate::spec::read_type_name;
@@ -17,13 +17,13 @@ use c_grammar::look::{
 };
 use c_grammar::nodes::{
     call_node, cast_node, char_node, choice_node, field_node, index_node, infix_node, name_node,
-    number_node, paren_node, prefix_node, probe_node, put, select_probe, simple_probe, size_node,
+    number_node, paren_node, prefix_node, put_inner, select_node, simple_node, size_node,
     step_node, string_node,
 };
 use c_grammar::size::{Size, above, around, higher};
 use c_syntax::text::Text;
 use c_syntax::token::{Mark, Token};
-use c_syntax::tree::{ExprProbe, Node, TypeName};
+use c_syntax::tree::{Node, TypeName};
 use std::alloc::Global;
 
 /// An expression that binds at least as tightly as `least`, how deep it is, and what follows it. There are `depth`
@@ -36,11 +36,11 @@ pub fn read_node<'a>(
     depth: u32,
     probes: u32,
     input: &'a [Token],
-) -> Result<(Node, Size, &'a [Token]), Stop>
+) -> Result<(Box<Node>, Size, &'a [Token]), Stop>
     requires deep { depth ≤ 400 }
     requires few { probes ≤ 1600 }
     requires tokens { length input.now < 4294967296 }
-    ensures found { IfOk result (λ p. NodeFound (reads least depth probes) input.now (node_shape p.0) p.1 p.2.now) }
+    ensures found { IfOk result (λ p. NodeFound (reads least depth probes) input.now (node_shape p.0.value) p.1 p.2.now) }
     ensures low { IfOk result (λ p. p.1.levels + depth ≤ 400) }
     ensures no_longer { IfOk result (λ p. length p.2.now ≤ length input.now) }
     ensures fails { IsErrOf result Stop.Syntax → Finds (reads least depth probes) input.now None }
@@ -77,18 +77,18 @@ fn climb<'a>(
     least: u8,
     depth: u32,
     probes: u32,
-    first: Node,
+    first: Box<Node>,
     first_size: Size,
     input: &'a [Token],
-) -> Result<(Node, Size, &'a [Token]), Stop>
+) -> Result<(Box<Node>, Size, &'a [Token]), Stop>
     requires deep { first_size.levels + depth ≤ 400 }
     requires few { probes ≤ 1600 }
     requires tokens { length input.now < 4294967296 }
-    requires measured { Measured (node_shape first) first_size }
-    ensures found { IfOk result (λ p. NodeFound (climbs least depth probes (node_shape first)) input.now (node_shape p.0) p.1 p.2.now) }
+    requires measured { Measured (node_shape first.value) first_size }
+    ensures found { IfOk result (λ p. NodeFound (climbs least depth probes (node_shape first.value)) input.now (node_shape p.0.value) p.1 p.2.now) }
     ensures low { IfOk result (λ p. p.1.levels + depth ≤ 400) }
     ensures no_longer { IfOk result (λ p. length p.2.now ≤ length input.now) }
-    ensures fails { IsErrOf result Stop.Syntax → Finds (climbs least depth probes (node_shape first)) input.now None }
+    ensures fails { IsErrOf result Stop.Syntax → Finds (climbs least depth probes (node_shape first.value)) input.now None }
 {
     let mut node = first;
     let mut size = first_size;
@@ -122,20 +122,20 @@ fn grow<'a>(
     alloc: Global,
     depth: u32,
     probes: u32,
-    left: Node,
+    left: Box<Node>,
     levels: u32,
     op_pos: Pos,
     op: Operator,
     input: &'a [Token],
-) -> Result<(Node, Size, &'a [Token]), Stop>
+) -> Result<(Box<Node>, Size, &'a [Token]), Stop>
     requires deep { levels + depth < 400 }
     requires few { probes ≤ 1600 }
     requires tokens { length input.now < 4294967296 }
-    requires measured { levels ≡ height (node_shape left) }
-    ensures found { IfOk result (λ p. NodeFound (grown depth probes (node_shape left) op_pos (oper_of op)) input.now (node_shape p.0) p.1 p.2.now) }
+    requires measured { levels ≡ height (node_shape left.value) }
+    ensures found { IfOk result (λ p. NodeFound (grown depth probes (node_shape left.value) op_pos (oper_of op)) input.now (node_shape p.0.value) p.1 p.2.now) }
     ensures low { IfOk result (λ p. p.1.levels + depth ≤ 400) }
     ensures no_longer { IfOk result (λ p. length p.2.now ≤ length input.now) }
-    ensures fails { IsErrOf result Stop.Syntax → Finds (grown depth probes (node_shape left) op_pos (oper_of op)) input.now None }
+    ensures fails { IsErrOf result Stop.Syntax → Finds (grown depth probes (node_shape left.value) op_pos (oper_of op)) input.now None }
 {
     match op {
         Operator::Infix(op) => grow_infix(alloc, depth, probes, left, levels, op_pos, op, input),
@@ -155,20 +155,20 @@ fn grow_infix<'a>(
     alloc: Global,
     depth: u32,
     probes: u32,
-    left: Node,
+    left: Box<Node>,
     levels: u32,
     op_pos: Pos,
     op: Infix,
     input: &'a [Token],
-) -> Result<(Node, Size, &'a [Token]), Stop>
+) -> Result<(Box<Node>, Size, &'a [Token]), Stop>
     requires deep { levels + depth < 400 }
     requires few { probes ≤ 1600 }
     requires tokens { length input.now < 4294967296 }
-    requires measured { levels ≡ height (node_shape left) }
-    ensures found { IfOk result (λ p. NodeFound (grown depth probes (node_shape left) op_pos (infix_oper (infix_of op))) input.now (node_shape p.0) p.1 p.2.now) }
+    requires measured { levels ≡ height (node_shape left.value) }
+    ensures found { IfOk result (λ p. NodeFound (grown depth probes (node_shape left.value) op_pos (infix_oper (infix_of op))) input.now (node_shape p.0.value) p.1 p.2.now) }
     ensures low { IfOk result (λ p. p.1.levels + depth ≤ 400) }
     ensures no_longer { IfOk result (λ p. length p.2.now ≤ length input.now) }
-    ensures fails { IsErrOf result Stop.Syntax → Finds (grown depth probes (node_shape left) op_pos (infix_oper (infix_of op))) input.now None }
+    ensures fails { IsErrOf result Stop.Syntax → Finds (grown depth probes (node_shape left.value) op_pos (infix_oper (infix_of op))) input.now None }
 {
     let (right, size, rest) = read_node(alloc, right_bound(op), depth + 1, probes, input)?;
     let all = above(higher(levels, size.levels));
@@ -181,19 +181,19 @@ fn grow_choice<'a>(
     alloc: Global,
     depth: u32,
     probes: u32,
-    left: Node,
+    left: Box<Node>,
     levels: u32,
     op_pos: Pos,
     input: &'a [Token],
-) -> Result<(Node, Size, &'a [Token]), Stop>
+) -> Result<(Box<Node>, Size, &'a [Token]), Stop>
     requires deep { levels + depth < 400 }
     requires few { probes ≤ 1600 }
     requires tokens { length input.now < 4294967296 }
-    requires measured { levels ≡ height (node_shape left) }
-    ensures found { IfOk result (λ p. NodeFound (grown depth probes (node_shape left) op_pos question) input.now (node_shape p.0) p.1 p.2.now) }
+    requires measured { levels ≡ height (node_shape left.value) }
+    ensures found { IfOk result (λ p. NodeFound (grown depth probes (node_shape left.value) op_pos question) input.now (node_shape p.0.value) p.1 p.2.now) }
     ensures low { IfOk result (λ p. p.1.levels + depth ≤ 400) }
     ensures no_longer { IfOk result (λ p. length p.2.now ≤ length input.now) }
-    ensures fails { IsErrOf result Stop.Syntax → Finds (grown depth probes (node_shape left) op_pos question) input.now None }
+    ensures fails { IsErrOf result Stop.Syntax → Finds (grown depth probes (node_shape left.value) op_pos question) input.now None }
 {
     let (yes, size, behind) = read_closed(alloc, depth, probes, Mark::Colon, input)?;
     let (no, last_size, rest) = read_node(alloc, 2, depth + 1, probes, behind)?;
@@ -207,19 +207,19 @@ fn grow_index<'a>(
     alloc: Global,
     depth: u32,
     probes: u32,
-    left: Node,
+    left: Box<Node>,
     levels: u32,
     op_pos: Pos,
     input: &'a [Token],
-) -> Result<(Node, Size, &'a [Token]), Stop>
+) -> Result<(Box<Node>, Size, &'a [Token]), Stop>
     requires deep { levels + depth < 400 }
     requires few { probes ≤ 1600 }
     requires tokens { length input.now < 4294967296 }
-    requires measured { levels ≡ height (node_shape left) }
-    ensures found { IfOk result (λ p. NodeFound (grown depth probes (node_shape left) op_pos bracket) input.now (node_shape p.0) p.1 p.2.now) }
+    requires measured { levels ≡ height (node_shape left.value) }
+    ensures found { IfOk result (λ p. NodeFound (grown depth probes (node_shape left.value) op_pos bracket) input.now (node_shape p.0.value) p.1 p.2.now) }
     ensures low { IfOk result (λ p. p.1.levels + depth ≤ 400) }
     ensures no_longer { IfOk result (λ p. length p.2.now ≤ length input.now) }
-    ensures fails { IsErrOf result Stop.Syntax → Finds (grown depth probes (node_shape left) op_pos bracket) input.now None }
+    ensures fails { IsErrOf result Stop.Syntax → Finds (grown depth probes (node_shape left.value) op_pos bracket) input.now None }
 {
     let (inner, size, rest) = read_closed(alloc, depth, probes, Mark::RightBracket, input)?;
     let all = above(higher(levels, size.levels));
@@ -231,18 +231,18 @@ fn grow_field<'a>(
     alloc: Global,
     depth: u32,
     probes: u32,
-    left: Node,
+    left: Box<Node>,
     levels: u32,
     op_pos: Pos,
     op: Access,
     input: &'a [Token],
-) -> Result<(Node, Size, &'a [Token]), Stop>
+) -> Result<(Box<Node>, Size, &'a [Token]), Stop>
     requires deep { levels + depth < 400 }
-    requires measured { levels ≡ height (node_shape left) }
-    ensures found { IfOk result (λ p. NodeFound (grown depth probes (node_shape left) op_pos (access (access_of op))) input.now (node_shape p.0) p.1 p.2.now) }
+    requires measured { levels ≡ height (node_shape left.value) }
+    ensures found { IfOk result (λ p. NodeFound (grown depth probes (node_shape left.value) op_pos (access (access_of op))) input.now (node_shape p.0.value) p.1 p.2.now) }
     ensures low { IfOk result (λ p. p.1.levels + depth ≤ 400) }
     ensures no_longer { IfOk result (λ p. length p.2.now ≤ length input.now) }
-    ensures fails { IsErrOf result Stop.Syntax → Finds (grown depth probes (node_shape left) op_pos (access (access_of op))) input.now None }
+    ensures fails { IsErrOf result Stop.Syntax → Finds (grown depth probes (node_shape left.value) op_pos (access (access_of op))) input.now None }
 {
     let Some((word, rest)) = find_word(input) else {
         return Err(Stop::Syntax);
@@ -256,15 +256,15 @@ fn grow_step<'a>(
     alloc: Global,
     depth: u32,
     probes: u32,
-    left: Node,
+    left: Box<Node>,
     levels: u32,
     op_pos: Pos,
     op: Step,
     input: &'a [Token],
-) -> Result<(Node, Size, &'a [Token]), Stop>
+) -> Result<(Box<Node>, Size, &'a [Token]), Stop>
     requires deep { levels + depth < 400 }
-    requires measured { levels ≡ height (node_shape left) }
-    ensures found { IfOk result (λ p. NodeFound (grown depth probes (node_shape left) op_pos (step (step_of op))) input.now (node_shape p.0) p.1 p.2.now) }
+    requires measured { levels ≡ height (node_shape left.value) }
+    ensures found { IfOk result (λ p. NodeFound (grown depth probes (node_shape left.value) op_pos (step (step_of op))) input.now (node_shape p.0.value) p.1 p.2.now) }
     ensures low { IfOk result (λ p. p.1.levels + depth ≤ 400) }
     ensures no_longer { IfOk result (λ p. length p.2.now ≤ length input.now) }
     ensures fails { IsErrOf result Stop.Syntax → ⊥ }
@@ -282,11 +282,11 @@ fn read_closed<'a>(
     probes: u32,
     mark: Mark,
     input: &'a [Token],
-) -> Result<(Node, Size, &'a [Token]), Stop>
+) -> Result<(Box<Node>, Size, &'a [Token]), Stop>
     requires deep { depth < 400 }
     requires few { probes ≤ 1600 }
     requires tokens { length input.now < 4294967296 }
-    ensures found { IfOk result (λ p. NodeFound (closed mark (whole depth probes)) input.now (node_shape p.0) p.1 p.2.now) }
+    ensures found { IfOk result (λ p. NodeFound (closed mark (whole depth probes)) input.now (node_shape p.0.value) p.1 p.2.now) }
     ensures low { IfOk result (λ p. p.1.levels + depth < 400) }
     ensures no_longer { IfOk result (λ p. length p.2.now ≤ length input.now) }
     ensures fails { IsErrOf result Stop.Syntax → Finds (closed mark (whole depth probes)) input.now None }
@@ -306,11 +306,11 @@ fn read_front<'a>(
     depth: u32,
     probes: u32,
     input: &'a [Token],
-) -> Result<(Node, Size, &'a [Token]), Stop>
+) -> Result<(Box<Node>, Size, &'a [Token]), Stop>
     requires deep { depth < 400 }
     requires few { probes ≤ 1600 }
     requires tokens { length input.now < 4294967296 }
-    ensures found { IfOk result (λ p. NodeFound (fronts depth probes) input.now (node_shape p.0) p.1 p.2.now) }
+    ensures found { IfOk result (λ p. NodeFound (fronts depth probes) input.now (node_shape p.0.value) p.1 p.2.now) }
     ensures low { IfOk result (λ p. p.1.levels + depth ≤ 400) }
     ensures no_longer { IfOk result (λ p. length p.2.now ≤ length input.now) }
     ensures fails { IsErrOf result Stop.Syntax → Finds (fronts depth probes) input.now None }
@@ -321,7 +321,7 @@ fn read_front<'a>(
     let pos = first_place(input);
     match begin {
         Start::Number(text) => Ok((number_node(alloc, pos, text)?, above(0), behind)),
-        Start::Char(byte) => Ok((char_node(pos, byte), above(0), behind)),
+        Start::Char(byte) => Ok((char_node(alloc, pos, byte)?, above(0), behind)),
         Start::Str(text) => Ok((string_node(alloc, pos, text)?, above(0), behind)),
         Start::Name(word) => read_name(alloc, depth, probes, input, word, behind),
         Start::Prefix(op) => read_prefix(alloc, depth, probes, input, op, behind),
@@ -341,13 +341,13 @@ fn read_name<'a>(
     input: &'a [Token],
     word: &'a Text,
     behind: &'a [Token],
-) -> Result<(Node, Size, &'a [Token]), Stop>
+) -> Result<(Box<Node>, Size, &'a [Token]), Stop>
     requires deep { depth < 400 }
     requires few { probes ≤ 1600 }
     requires tokens { length input.now < 4294967296 }
     requires begins { start input.now ≡ at_leaf (name word.now) behind.now }
     requires behind { length behind.now < length input.now }
-    ensures found { IfOk result (λ p. NodeFound (fronts depth probes) input.now (node_shape p.0) p.1 p.2.now) }
+    ensures found { IfOk result (λ p. NodeFound (fronts depth probes) input.now (node_shape p.0.value) p.1 p.2.now) }
     ensures low { IfOk result (λ p. p.1.levels + depth ≤ 400) }
     ensures no_longer { IfOk result (λ p. length p.2.now ≤ length input.now) }
     ensures fails { IsErrOf result Stop.Syntax → Finds (fronts depth probes) input.now None }
@@ -384,7 +384,7 @@ fn read_arguments<'a>(
         return Ok((args, 0, rest));
     }
     let (first, size, behind) = read_node(alloc, 1, depth + 1, probes, input)?;
-    put(&mut args, first)?;
+    put_inner(&mut args, first)?;
     let (args, all, last) = read_led(alloc, 1, depth + 1, probes, args, size, behind)?;
     match past(last, Mark::RightParen) {
         Some(rest) => Ok((args, all.levels, rest)),
@@ -418,7 +418,7 @@ fn read_led<'a>(
     let mut rest = input;
     while let Some(inside) = past(rest, Mark::Comma) {
         let (node, node_size, behind) = read_node(alloc, least, depth, probes, inside)?;
-        put(&mut list, node)?;
+        put_inner(&mut list, node)?;
         all = Size {
             levels: higher(all.levels, node_size.levels),
             probes: higher(all.probes, node_size.probes),
@@ -438,13 +438,13 @@ fn read_prefix<'a>(
     input: &'a [Token],
     op: Prefix,
     behind: &'a [Token],
-) -> Result<(Node, Size, &'a [Token]), Stop>
+) -> Result<(Box<Node>, Size, &'a [Token]), Stop>
     requires deep { depth < 400 }
     requires few { probes ≤ 1600 }
     requires tokens { length input.now < 4294967296 }
     requires begins { start input.now ≡ at_prefix (prefix_of op) behind.now }
     requires behind { length behind.now < length input.now }
-    ensures found { IfOk result (λ p. NodeFound (fronts depth probes) input.now (node_shape p.0) p.1 p.2.now) }
+    ensures found { IfOk result (λ p. NodeFound (fronts depth probes) input.now (node_shape p.0.value) p.1 p.2.now) }
     ensures low { IfOk result (λ p. p.1.levels + depth ≤ 400) }
     ensures no_longer { IfOk result (λ p. length p.2.now ≤ length input.now) }
     ensures fails { IsErrOf result Stop.Syntax → Finds (fronts depth probes) input.now None }
@@ -453,7 +453,7 @@ fn read_prefix<'a>(
     match past_size(op, behind) {
         Some(inside) => {
             let (type_name, levels, rest) = read_typed(alloc, depth, probes, inside)?;
-            Ok((size_node(pos, type_name), above(levels), rest))
+            Ok((size_node(alloc, pos, type_name)?, above(levels), rest))
         }
         None => {
             let (operand, size, rest) = read_node(
@@ -502,13 +502,13 @@ fn read_paren<'a>(
     probes: u32,
     input: &'a [Token],
     behind: &'a [Token],
-) -> Result<(Node, Size, &'a [Token]), Stop>
+) -> Result<(Box<Node>, Size, &'a [Token]), Stop>
     requires deep { depth < 400 }
     requires few { probes ≤ 1600 }
     requires tokens { length input.now < 4294967296 }
     requires begins { start input.now ≡ at_paren behind.now }
     requires behind { length behind.now < length input.now }
-    ensures found { IfOk result (λ p. NodeFound (fronts depth probes) input.now (node_shape p.0) p.1 p.2.now) }
+    ensures found { IfOk result (λ p. NodeFound (fronts depth probes) input.now (node_shape p.0.value) p.1 p.2.now) }
     ensures low { IfOk result (λ p. p.1.levels + depth ≤ 400) }
     ensures no_longer { IfOk result (λ p. length p.2.now ≤ length input.now) }
     ensures fails { IsErrOf result Stop.Syntax → Finds (fronts depth probes) input.now None }
@@ -533,14 +533,14 @@ fn read_cast<'a>(
     input: &'a [Token],
     behind: &'a [Token],
     inside: &'a [Token],
-) -> Result<(Node, Size, &'a [Token]), Stop>
+) -> Result<(Box<Node>, Size, &'a [Token]), Stop>
     requires deep { depth < 400 }
     requires few { probes ≤ 1600 }
     requires tokens { length input.now < 4294967296 }
     requires begins { start input.now ≡ at_paren behind.now }
     requires type_there { type_ahead input.now ≡ Some inside.now }
     requires inside { length inside.now < length input.now }
-    ensures found { IfOk result (λ p. NodeFound (fronts depth probes) input.now (node_shape p.0) p.1 p.2.now) }
+    ensures found { IfOk result (λ p. NodeFound (fronts depth probes) input.now (node_shape p.0.value) p.1 p.2.now) }
     ensures low { IfOk result (λ p. p.1.levels + depth ≤ 400) }
     ensures no_longer { IfOk result (λ p. length p.2.now ≤ length input.now) }
     ensures fails { IsErrOf result Stop.Syntax → Finds (fronts depth probes) input.now None }
@@ -554,7 +554,7 @@ fn read_cast<'a>(
 
 // A probe with no case constants; `behind` is what follows its word.
 #[cycle(reading)]
-#[tactic(auto, using(crate::proofs::ExprRead::simple_measured, crate::proofs::ExprRead::simple_read, crate::proofs::ExprRead::simple_unread, c_grammar::proofs::ExprSteps::front_simple_unnumbered, c_grammar::proofs::ExprSteps::front_simple_alone, c_grammar::proofs::ExprSteps::front_simple_many))]
+#[tactic(auto, using(crate::proofs::ExprRead::simple_read, crate::proofs::ExprRead::simple_unread, c_grammar::proofs::ExprSteps::front_simple_unnumbered, c_grammar::proofs::ExprSteps::front_simple_alone, c_grammar::proofs::ExprSteps::front_simple_many))]
 fn read_simple<'a>(
     alloc: Global,
     depth: u32,
@@ -562,13 +562,13 @@ fn read_simple<'a>(
     input: &'a [Token],
     probing: Probing,
     behind: &'a [Token],
-) -> Result<(Node, Size, &'a [Token]), Stop>
+) -> Result<(Box<Node>, Size, &'a [Token]), Stop>
     requires deep { depth < 400 }
     requires few { probes ≤ 1600 }
     requires tokens { length input.now < 4294967296 }
     requires begins { start input.now ≡ at_simple (probing_of probing) behind.now }
     requires behind { length behind.now < length input.now }
-    ensures found { IfOk result (λ p. NodeFound (fronts depth probes) input.now (node_shape p.0) p.1 p.2.now) }
+    ensures found { IfOk result (λ p. NodeFound (fronts depth probes) input.now (node_shape p.0.value) p.1 p.2.now) }
     ensures low { IfOk result (λ p. p.1.levels + depth ≤ 400) }
     ensures no_longer { IfOk result (λ p. length p.2.now ≤ length input.now) }
     ensures fails { IsErrOf result Stop.Syntax → Finds (fronts depth probes) input.now None }
@@ -582,40 +582,32 @@ fn read_simple<'a>(
     let Some(inside) = past(numbered, Mark::Comma) else {
         return Err(Stop::Syntax);
     };
-    let form = simple_probe(alloc, probing, number)?;
     let none = Size {
         levels: 0,
         probes: 0,
     };
     let least = probe_bound(probing);
-    read_probed(
-        alloc,
-        least,
-        depth,
-        probes,
-        first_place(input),
-        form,
-        none,
-        inside,
-    )
+    let (inner, size, rest) = read_inside(alloc, least, depth, probes, none, inside)?;
+    let node = simple_node(alloc, first_place(input), probing, number, inner)?;
+    Ok((node, size, rest))
 }
 
 // The probe of a `switch`; `behind` is what follows its word.
 #[cycle(reading)]
-#[tactic(auto, using(crate::proofs::ExprRead::select_measured, crate::proofs::ExprRead::select_read, crate::proofs::ExprRead::select_unread, crate::proofs::ExprRead::select_unended, c_grammar::proofs::ExprSteps::front_select_fails, c_grammar::proofs::ExprSteps::front_select_unnumbered, c_grammar::proofs::ExprSteps::front_select_many))]
+#[tactic(auto, using(crate::proofs::ExprRead::select_read, crate::proofs::ExprRead::select_unread, crate::proofs::ExprRead::select_unended, c_grammar::proofs::ExprSteps::front_select_fails, c_grammar::proofs::ExprSteps::front_select_unnumbered, c_grammar::proofs::ExprSteps::front_select_many))]
 fn read_select<'a>(
     alloc: Global,
     depth: u32,
     probes: u32,
     input: &'a [Token],
     behind: &'a [Token],
-) -> Result<(Node, Size, &'a [Token]), Stop>
+) -> Result<(Box<Node>, Size, &'a [Token]), Stop>
     requires deep { depth < 400 }
     requires few { probes ≤ 1600 }
     requires tokens { length input.now < 4294967296 }
     requires begins { start input.now ≡ at_select behind.now }
     requires behind { length behind.now < length input.now }
-    ensures found { IfOk result (λ p. NodeFound (fronts depth probes) input.now (node_shape p.0) p.1 p.2.now) }
+    ensures found { IfOk result (λ p. NodeFound (fronts depth probes) input.now (node_shape p.0.value) p.1 p.2.now) }
     ensures low { IfOk result (λ p. p.1.levels + depth ≤ 400) }
     ensures no_longer { IfOk result (λ p. length p.2.now ≤ length input.now) }
     ensures fails { IsErrOf result Stop.Syntax → Finds (fronts depth probes) input.now None }
@@ -630,17 +622,9 @@ fn read_select<'a>(
     let Some(inside) = past(last, Mark::Semicolon) else {
         return Err(Stop::Syntax);
     };
-    let form = select_probe(alloc, number, cases)?;
-    read_probed(
-        alloc,
-        0,
-        depth,
-        probes,
-        first_place(input),
-        form,
-        size,
-        inside,
-    )
+    let (inner, all, rest) = read_inside(alloc, 0, depth, probes, size, inside)?;
+    let node = select_node(alloc, first_place(input), number, cases, inner)?;
+    Ok((node, all, rest))
 }
 
 // The case constants of the probe of a `switch`, with a comma in front of each.
@@ -667,36 +651,33 @@ fn read_cases<'a>(
     read_led(alloc, 2, depth, probes + 1, Vec::new(alloc), none, input)
 }
 
-// A probe's expression, the closing parenthesis and the probe round it. `cases` is how deep the probe's case constants
-// are.
+// The expression in a probe, the closing parenthesis, and the size of the probe. `cases` is how deep the probe's case
+// constants are.
 #[cycle(reading)]
-#[tactic(auto, using(crate::proofs::ExprRead::probed_read, crate::proofs::ExprRead::probed_too_many, crate::proofs::ExprRead::probed_unread, crate::proofs::ExprRead::probed_unclosed))]
-fn read_probed<'a>(
+#[tactic(auto, using(crate::proofs::ExprRead::inside_read, crate::proofs::ExprRead::inside_too_many, crate::proofs::ExprRead::inside_unread, crate::proofs::ExprRead::inside_unclosed))]
+fn read_inside<'a>(
     alloc: Global,
     least: u8,
     depth: u32,
     probes: u32,
-    pos: Pos,
-    form: ExprProbe,
     cases: Size,
     input: &'a [Token],
-) -> Result<(Node, Size, &'a [Token]), Stop>
+) -> Result<(Box<Node>, Size, &'a [Token]), Stop>
     requires deep { depth < 400 }
     requires few { probes < 1600 }
     requires tokens { length input.now < 4294967296 }
     requires low { cases.levels + depth ≤ 400 }
-    requires measured { CasesMeasured (probe_shape form) cases }
-    ensures found { IfOk result (λ p. NodeFound (probed least depth probes pos (probe_shape form)) input.now (node_shape p.0) p.1 p.2.now) }
+    ensures found { IfOk result (λ p. InsideFound least depth probes cases input.now (node_shape p.0.value) p.1 p.2.now) }
     ensures low { IfOk result (λ p. p.1.levels + depth ≤ 400) }
     ensures no_longer { IfOk result (λ p. length p.2.now ≤ length input.now) }
-    ensures fails { IsErrOf result Stop.Syntax → Finds (probed least depth probes pos (probe_shape form)) input.now None }
+    ensures fails { IsErrOf result Stop.Syntax → InsideFails least depth probes cases input.now }
 {
     let (inner, size, last) = read_node(alloc, least, depth, probes + 1, input)?;
     let Some(rest) = past(last, Mark::RightParen) else {
         return Err(Stop::Syntax);
     };
-    let Some(all) = around(cases, size) else {
-        return Err(Stop::Syntax);
-    };
-    Ok((probe_node(alloc, pos, form, inner)?, all, rest))
+    match around(cases, size) {
+        Some(all) => Ok((inner, all, rest)),
+        None => Err(Stop::Syntax),
+    }
 }

@@ -11,12 +11,12 @@ use crate::decl::read_decls;
 use crate::expr::read_node;
 use c_grammar::allow::has_name;
 use c_grammar::build::{
-    bare_enum, bare_struct, new_enum, new_enumer, new_struct, new_type, star_count,
+    bare_enum, bare_name, bare_struct, new_enum, new_enumer, new_struct, new_type, star_count,
 };
 use c_grammar::look::{
     MOST_LEVELS, SpecStart, Standing, Stop, at_spec, find_spec, find_word, first_place, past,
 };
-use c_grammar::nodes::put;
+use c_grammar::nodes::{put, put_inner};
 use c_grammar::size::higher;
 use c_grammar::stars::{read_stars, read_tag};
 use c_syntax::token::{Mark, Token};
@@ -31,12 +31,12 @@ fn read_given<'a>(
     depth: u32,
     probes: u32,
     input: &'a [Token],
-) -> Result<(Node, u32, &'a [Token]), Stop>
+) -> Result<(Box<Node>, u32, &'a [Token]), Stop>
     requires deep { depth < 400 }
     requires few { probes ≤ 1600 }
     requires tokens { length input.now < 4294967296 }
     requires given { after Mark.RightBracket input.now ≡ None }
-    ensures found { IfOk result (λ p. Found (one_length false depth probes) maybe_height input.now (one_node (node_shape p.0)) p.1 p.2.now) }
+    ensures found { IfOk result (λ p. Found (one_length false depth probes) maybe_height input.now (one_node (node_shape p.0.value)) p.1 p.2.now) }
     ensures low { IfOk result (λ p. p.1 + depth < 400) }
     ensures no_longer { IfOk result (λ p. length p.2.now ≤ length input.now) }
     ensures fails { IsErrOf result Stop.Syntax → Finds (one_length false depth probes) input.now None }
@@ -77,7 +77,7 @@ fn read_length<'a>(
         }
         None => {
             let (node, levels, rest) = read_given(alloc, depth, probes, input)?;
-            Ok((Some(node), levels, rest))
+            Ok((Some(Box::into_inner(node)), levels, rest))
         }
     }
 }
@@ -126,11 +126,11 @@ fn read_type_length<'a>(
     depth: u32,
     probes: u32,
     input: &'a [Token],
-) -> Result<(Node, u32, &'a [Token]), Stop>
+) -> Result<(Box<Node>, u32, &'a [Token]), Stop>
     requires deep { depth < 400 }
     requires few { probes ≤ 1600 }
     requires tokens { length input.now < 4294967296 }
-    ensures found { IfOk result (λ p. Found (one_length false depth probes) maybe_height input.now (one_node (node_shape p.0)) p.1 p.2.now) }
+    ensures found { IfOk result (λ p. Found (one_length false depth probes) maybe_height input.now (one_node (node_shape p.0.value)) p.1 p.2.now) }
     ensures low { IfOk result (λ p. p.1 + depth < 400) }
     ensures no_longer { IfOk result (λ p. length p.2.now ≤ length input.now) }
     ensures fails { IsErrOf result Stop.Syntax → Finds (one_length false depth probes) input.now None }
@@ -168,7 +168,7 @@ fn read_type_lengths<'a>(
             return Err(Stop::Syntax);
         }
         let (length, own, behind) = read_type_length(alloc, count + depth, probes, inside)?;
-        put(&mut list, length)?;
+        put_inner(&mut list, length)?;
         levels = higher(levels, count + 1 + own);
         count += 1;
         rest = behind;
@@ -441,9 +441,9 @@ fn read_enumer<'a>(
     let Some((word, behind)) = find_word(input) else {
         return Err(Stop::Syntax);
     };
+    let name = bare_name(alloc, first_place(input), word)?;
     let (value, levels, rest) = read_value(alloc, depth, probes, behind)?;
-    let enumer = new_enumer(alloc, first_place(input), word, value)?;
-    Ok((enumer, levels, rest))
+    Ok((new_enumer(name, value), levels, rest))
 }
 
 // The value of an enumerator behind its name, where it has one.
@@ -467,7 +467,7 @@ fn read_value<'a>(
         None => Ok((None, 0, input)),
         Some(inside) => {
             let (node, size, rest) = read_node(alloc, 2, depth, probes, inside)?;
-            Ok((Some(node), size.levels, rest))
+            Ok((Some(Box::into_inner(node)), size.levels, rest))
         }
     }
 }

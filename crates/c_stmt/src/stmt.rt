@@ -15,7 +15,7 @@ use c_forms::forms::{
     read_parens, read_plain, switch_form, when_form, while_form,
 };
 use c_grammar::look::{MOST_LEVELS, Standing, Stop, first_place, past, past_key};
-use c_grammar::nodes::put;
+use c_grammar::nodes::{boxed, put};
 use c_grammar::size::higher;
 use c_phrase::decl::read_decls;
 use c_syntax::token::{Key, Mark, Token};
@@ -29,10 +29,10 @@ pub fn read_statement<'a>(
     alloc: Global,
     depth: u32,
     input: &'a [Token],
-) -> Result<(Stmt, u32, &'a [Token]), Stop>
+) -> Result<(Box<Stmt>, u32, &'a [Token]), Stop>
     requires deep { depth ≤ 400 }
     requires tokens { length input.now < 4294967296 }
-    ensures found { IfOk result (λ p. Found (reads_stmt depth) stmt_height input.now (stmt_shape p.0) p.1 p.2.now) }
+    ensures found { IfOk result (λ p. Found (reads_stmt depth) stmt_height input.now (stmt_shape p.0.value) p.1 p.2.now) }
     ensures low { IfOk result (λ p. p.1 + depth ≤ 400) }
     ensures no_longer { IfOk result (λ p. length p.2.now ≤ length input.now) }
     ensures shorter { IfOk result (λ p. length p.2.now < length input.now) }
@@ -45,12 +45,15 @@ pub fn read_statement<'a>(
     let (probes, behind) = read_marks(alloc, input)?;
     let at = first_place(behind);
     let (form, levels, rest) = read_form(alloc, depth, behind)?;
-    let stmt = Stmt {
-        pos,
-        probes,
-        at,
-        form,
-    };
+    let stmt = boxed(
+        alloc,
+        Stmt {
+            pos,
+            probes,
+            at,
+            form,
+        },
+    )?;
     Ok((stmt, levels + 1, rest))
 }
 
@@ -111,11 +114,11 @@ fn read_if<'a>(
     let (body, body_levels, rest) = read_statement(alloc, depth + 1, behind)?;
     let Some(other) = past_key(rest, Key::Else) else {
         let levels = higher(test_levels, body_levels);
-        return Ok((when_form(alloc, test, body)?, levels, rest));
+        return Ok((when_form(test, body), levels, rest));
     };
     let (last, last_levels, end) = read_statement(alloc, depth + 1, other)?;
     let levels = higher(test_levels, higher(body_levels, last_levels));
-    Ok((either_form(alloc, test, body, last)?, levels, end))
+    Ok((either_form(test, body, last), levels, end))
 }
 
 // What stands behind `while`.
@@ -136,7 +139,7 @@ fn read_while<'a>(
     let (test, test_levels, behind) = read_parens(alloc, depth + 1, input)?;
     let (body, body_levels, rest) = read_statement(alloc, depth + 1, behind)?;
     let levels = higher(test_levels, body_levels);
-    Ok((while_form(alloc, test, body)?, levels, rest))
+    Ok((while_form(test, body), levels, rest))
 }
 
 // What stands behind `do`.
@@ -163,7 +166,7 @@ fn read_do<'a>(
         return Err(Stop::Syntax);
     };
     let levels = higher(body_levels, test_levels);
-    Ok((do_form(alloc, body, test)?, levels, rest))
+    Ok((do_form(body, test), levels, rest))
 }
 
 // What stands behind `for`.
@@ -183,7 +186,7 @@ fn read_for<'a>(
     let (head, head_levels, behind) = read_head(alloc, depth, input)?;
     let (body, body_levels, rest) = read_statement(alloc, depth + 1, behind)?;
     let levels = higher(head_levels, body_levels);
-    Ok((for_form(alloc, head, body)?, levels, rest))
+    Ok((for_form(head, body), levels, rest))
 }
 
 // What stands behind `switch`.
@@ -233,10 +236,12 @@ fn read_item<'a>(
     let (labels, label_levels, behind) = read_labels(alloc, depth, input)?;
     if labels.is_empty() {
         let (stmt, levels, rest) = read_statement(alloc, depth, behind)?;
+        let stmt = Box::into_inner(stmt);
         return Ok((Item { labels, stmt }, levels, rest));
     }
     let (stmt, stmt_levels, rest) = read_statement(alloc, depth + 1, behind)?;
     let levels = higher(label_levels, stmt_levels) + 1;
+    let stmt = Box::into_inner(stmt);
     Ok((Item { labels, stmt }, levels, rest))
 }
 

@@ -7,13 +7,13 @@ use Rattle.c_grammar.specs.Look.{is_spec, spec_head, Finds, after}
 use Rattle.c_grammar.specs.Reader.{reads_decls, reads_declarator, reads, reads_stars, reads_lengths}
 use Rattle.c_grammar.specs.Found.{Found, NodeFound}
 use Rattle.c_grammar.specs.Parts.{behind, declaring}
-use Rattle.c_grammar.specs.CodeView.{standing_of, oper_of}
+use Rattle.c_grammar.specs.CodeView.{standing_of, oper_of, infix_of, prefix_of}
 use Rattle.c_phrase.proofs.DeclRead.{named_unended, params_first, params_first_measured, params_further, params_measured, param_unread, further_unread, decl_unread, decl_unended, decls_further, decls_measured, one_read, list_read, list_unclosed, inits_first, inits_first_measured, inits_further, inits_measured}
 use Rattle.c_syntax.specs.Forms.{place}
-use Rattle.c_syntax.specs.Shape.{listed}
+use Rattle.c_syntax.specs.Shape.{listed, bare, node, prefix}
 use Rattle.c_grammar.proofs.ListSteps.{one_item_more}
 use Rattle.c_grammar.proofs.CodeSteps.{lengths_many, type_lengths_many}
-use Rattle.c_phrase.proofs.ExprRead.{climb_more, climb_unread, climb_too_high, choice_read, choice_unended, arguments_read, arguments_broken, arguments_unclosed, cast_read, cast_unended, mark_read, led_further, led_measured, led_ended, call_read, node_read, node_loose, node_unended, probed_read, probed_too_many, select_read, select_unread, simple_read, typed_read, typed_unclosed}
+use Rattle.c_phrase.proofs.ExprRead.{climb_more, climb_unread, climb_too_high, infix_read, prefix_read, takes_inner, level_inner, inside_unclosed, inside_too_many, choice_read, choice_unended, arguments_read, arguments_broken, arguments_unclosed, cast_read, cast_unended, mark_read, led_further, led_measured, led_ended, call_read, node_read, node_loose, node_unended, select_read, select_unread, simple_read, simple_unread, typed_read, typed_unclosed}
 use Rattle.std.proofs.lemmas.Result.{IfOk-weaker}
 use Rattle.c_syntax.specs.declared.token.Mark.TheVariants as marks
 use Rattle.c_phrase.proofs.+reading.Goals as goal
@@ -107,7 +107,7 @@ init::read_braced-returns-in-None-clause-fails t c = λ e.
 pub init::read_init-returns-in_ok-node-in-None-clause-found : goal.init::read_init-returns-in_ok-node-in-None-clause-found
 init::read_init-returns-in_ok-node-in-None-clause-found t c =
     let low : c.args.depth < 400 = search rules in
-    one_read c.args.depth (c.args.depth + 1) c.args.probes (c.in_ok-node-in-None.size.levels + 1) (node_shape c.in_ok-node-in-None.node) (init_shape c.single_init.result) c.in_ok-node-in-None.size c.args.input.now c.in_ok-node-in-None.rest.now low c.in-None.ensures.found c.in_ok-node-in-None.ensures.found refl c.single_init.ensures refl
+    one_read c.args.depth (c.args.depth + 1) c.args.probes (c.in_ok-node-in-None.size.levels + 1) (node_shape c.in_ok-node-in-None.node.value) (init_shape c.single_init.result) c.in_ok-node-in-None.size c.args.input.now c.in_ok-node-in-None.rest.now low c.in-None.ensures.found c.in_ok-node-in-None.ensures.found refl c.single_init.ensures refl
 
 pub init::read_inits-loop-inside-init : goal.init::read_inits-loop-inside-init
 init::read_inits-loop-inside-init t c =
@@ -131,8 +131,8 @@ init::read_inits-loop-inside-preserved t c =
 
 pub spec::read_given-returns-in-Some-clause-found : goal.spec::read_given-returns-in-Some-clause-found
 spec::read_given-returns-in-Some-clause-found t c =
-    let f : NodeFound (reads 2 (suc c.args.depth) c.args.probes) c.args.input.now (node_shape c.in_ok-node.node) c.in_ok-node.size c.in_ok-node.behind.now = search rules in
-    given_read c.args.depth c.args.probes (node_shape c.in_ok-node.node) c.in_ok-node.size c.args.input.now c.in_ok-node.behind.now c.in-Some.rest.now c.requires.given f c.in-Some.ensures.found
+    let f : NodeFound (reads 2 (suc c.args.depth) c.args.probes) c.args.input.now (node_shape c.in_ok-node.node.value) c.in_ok-node.size c.in_ok-node.behind.now = search rules in
+    given_read c.args.depth c.args.probes (node_shape c.in_ok-node.node.value) c.in_ok-node.size c.args.input.now c.in_ok-node.behind.now c.in-Some.rest.now c.requires.given f c.in-Some.ensures.found
 
 pub spec::read_lengths-returns-then-count-depth-ge-MOST_LEVELS-clause-fails : goal.spec::read_lengths-returns-then-count-depth-ge-MOST_LEVELS-clause-fails
 spec::read_lengths-returns-then-count-depth-ge-MOST_LEVELS-clause-fails t c = λ e.
@@ -161,15 +161,15 @@ spec::read_type_lengths-returns-then-count-depth-ge-MOST_LEVELS-clause-fails t c
 pub spec::read_type_lengths-loop-inside-preserved : goal.spec::read_type_lengths-loop-inside-preserved
 spec::read_type_lengths-loop-inside-preserved t c =
     let low : c.loop-inside.count + c.args.depth < 400 = search rules in
-    let same = c.in_ok-put.ensures.ok in
-    let more = one_item_more c.put.new.list.items c.loop-inside.list.items c.in_ok-length.length same in
+    let same = c.in_ok-put_inner.ensures.ok in
+    let more = one_item_more c.put_inner.new.list.items c.loop-inside.list.items c.in_ok-length.length.value same in
     record {
       count = omega (arith, more, c.loop-inside.invariant.count);
       few = omega (arith, low);
       low = omega (arith, c.higher-levels.ensures, c.in_ok-length.ensures.low, c.loop-inside.invariant.low);
-      measured = type_lengths_measured c.put.new.list.items (c.loop-inside.count + c.args.depth) c.args.probes c.loop-inside.levels c.in_ok-length.own c.loop-inside.count c.higher-levels.result c.loop-inside.list.items c.in_ok-length.length c.in-Some.inside.now c.in_ok-length.behind.now c.in_ok-length.ensures.found c.loop-inside.invariant.measured c.loop-inside.invariant.count same c.higher-levels.ensures;
+      measured = type_lengths_measured c.put_inner.new.list.items (c.loop-inside.count + c.args.depth) c.args.probes c.loop-inside.levels c.in_ok-length.own c.loop-inside.count c.higher-levels.result c.loop-inside.list.items c.in_ok-length.length.value c.in-Some.inside.now c.in_ok-length.behind.now c.in_ok-length.ensures.found c.loop-inside.invariant.measured c.loop-inside.invariant.count same c.higher-levels.ensures;
       no_longer = omega (arith, c.in_ok-length.ensures.no_longer, c.in-Some.ensures.shorter, c.loop-inside.invariant.no_longer);
-      on = type_lengths_further c.put.new.list.items c.args.depth c.args.probes c.in_ok-length.own c.loop-inside.count c.loop-inside.list.items c.in_ok-length.length c.args.input.now c.loop-inside.rest.now c.in-Some.inside.now c.in_ok-length.behind.now c.loop-inside.invariant.on c.loop-inside.invariant.count c.in-Some.ensures.found low c.in_ok-length.ensures.found same;
+      on = type_lengths_further c.put_inner.new.list.items c.args.depth c.args.probes c.in_ok-length.own c.loop-inside.count c.loop-inside.list.items c.in_ok-length.length.value c.args.input.now c.loop-inside.rest.now c.in-Some.inside.now c.in_ok-length.behind.now c.loop-inside.invariant.on c.loop-inside.invariant.count c.in-Some.ensures.found low c.in_ok-length.ensures.found same;
     }
 
 pub spec::read_type_name-returns-in_err-stars-clause-fails : goal.spec::read_type_name-returns-in_err-stars-clause-fails
@@ -184,33 +184,33 @@ spec::read_type_name-returns-in_err-lengths-clause-fails t c = λ e.
     type_unended c.args.depth c.args.probes c.in_ok-specs.levels c.star_count-count.result (spec_list c.in_ok-specs.specs.items) c.in_ok-stars.stars.items c.args.input.now c.in_ok-specs.behind.now c.in_ok-stars.inside.now c.in_ok-specs.ensures.found c.in_ok-stars.ensures.found count p
 
 pub expr::climb-returns-then-size-depth-ge-MOST_LEVELS-clause-fails : goal.expr::climb-returns-then-size-depth-ge-MOST_LEVELS-clause-fails
-expr::climb-returns-then-size-depth-ge-MOST_LEVELS-clause-fails t c = λ e. climb_too_high c.args.least c.args.depth c.args.probes (node_shape c.args.first) (node_shape c.loop-op.node) c.loop-op.size.levels (oper_of c.in-Some.op) c.args.input.now c.loop-op.rest.now c.in-Some.behind.now c.loop-op.invariant.on c.in-Some.ensures.found c.loop-op.invariant.measured.levels (search rules)
+expr::climb-returns-then-size-depth-ge-MOST_LEVELS-clause-fails t c = λ e. climb_too_high c.args.least c.args.depth c.args.probes (node_shape c.args.first.value) (node_shape c.loop-op.node.value) c.loop-op.size.levels (oper_of c.in-Some.op) c.args.input.now c.loop-op.rest.now c.in-Some.behind.now c.loop-op.invariant.on (takes_inner _ _ _ _ _ _ c.deref.ensures c.in-Some.ensures.found) c.loop-op.invariant.measured.levels (search rules)
 
 pub expr::climb-returns-in_err-grown-clause-fails : goal.expr::climb-returns-in_err-grown-clause-fails
-expr::climb-returns-in_err-grown-clause-fails t c = λ e. climb_unread c.args.least c.args.depth c.args.probes c.first_place-op_pos.result (node_shape c.args.first) (node_shape c.loop-op.node) c.loop-op.size.levels (oper_of c.in-Some.op) c.args.input.now c.loop-op.rest.now c.in-Some.behind.now c.loop-op.invariant.on c.in-Some.ensures.found c.loop-op.invariant.measured.levels (search rules) c.first_place-op_pos.ensures (c.in_err-grown.ensures.fails (search rules))
+expr::climb-returns-in_err-grown-clause-fails t c = λ e. climb_unread c.args.least c.args.depth c.args.probes c.first_place-op_pos.result (node_shape c.args.first.value) (node_shape c.loop-op.node.value) c.loop-op.size.levels (oper_of c.in-Some.op) c.args.input.now c.loop-op.rest.now c.in-Some.behind.now c.loop-op.invariant.on (takes_inner _ _ _ _ _ _ c.deref.ensures c.in-Some.ensures.found) c.loop-op.invariant.measured.levels (search rules) c.first_place-op_pos.ensures (c.in_err-grown.ensures.fails (search rules))
 
 pub expr::climb-loop-op-preserved : goal.expr::climb-loop-op-preserved
 expr::climb-loop-op-preserved t c = record {
   low = c.in_ok-grown.ensures.low;
   measured = c.in_ok-grown.ensures.found.size;
   no_longer = search rules;
-  on = climb_more c.args.least c.args.depth c.args.probes c.first_place-op_pos.result (node_shape c.args.first) (node_shape c.loop-op.node) (node_shape c.in_ok-grown.grown) c.loop-op.size.levels c.in_ok-grown.grown_size (oper_of c.in-Some.op) c.args.input.now c.loop-op.rest.now c.in-Some.behind.now c.in_ok-grown.further.now c.loop-op.invariant.on c.in-Some.ensures.found c.loop-op.invariant.measured.levels (search rules) c.first_place-op_pos.ensures c.in_ok-grown.ensures.found;
+  on = climb_more c.args.least c.args.depth c.args.probes c.first_place-op_pos.result (node_shape c.args.first.value) (node_shape c.loop-op.node.value) (node_shape c.in_ok-grown.grown.value) c.loop-op.size.levels c.in_ok-grown.grown_size (oper_of c.in-Some.op) c.args.input.now c.loop-op.rest.now c.in-Some.behind.now c.in_ok-grown.further.now c.loop-op.invariant.on (takes_inner _ _ _ _ _ _ c.deref.ensures c.in-Some.ensures.found) c.loop-op.invariant.measured.levels (search rules) c.first_place-op_pos.ensures c.in_ok-grown.ensures.found;
 }
 
 pub expr::grow_choice-returns-in_err-no-clause-fails : goal.expr::grow_choice-returns-in_err-no-clause-fails
-expr::grow_choice-returns-in_err-no-clause-fails t c = λ e. choice_unended c.args.depth c.args.probes (node_shape c.args.left) _ _ c.args.op_pos _ _ c.in_ok-yes.ensures.found (c.in_err-no.ensures.fails (search rules))
+expr::grow_choice-returns-in_err-no-clause-fails t c = λ e. choice_unended c.args.depth c.args.probes (node_shape c.args.left.value) _ _ c.args.op_pos _ _ c.in_ok-yes.ensures.found (c.in_err-no.ensures.fails (search rules))
 
 pub expr::grow_choice-returns-clause-found : goal.expr::grow_choice-returns-clause-found
-expr::grow_choice-returns-clause-found t c = choice_read c.args.depth c.args.probes (node_shape c.args.left) _ _ _ _ _ _ _ _ _ c.args.op_pos _ _ _ c.in_ok-yes.ensures.found c.in_ok-no.ensures.found c.requires.measured c.in_ok-choice_node.ensures.ok c.higher.ensures c.higher-2.ensures c.above-all.ensures.levels c.above-all.ensures.probes
+expr::grow_choice-returns-clause-found t c = choice_read c.args.depth c.args.probes (node_shape c.args.left.value) _ _ _ _ _ _ _ _ _ c.args.op_pos _ _ _ c.in_ok-yes.ensures.found c.in_ok-no.ensures.found c.requires.measured c.in_ok-choice_node.ensures.ok c.higher.ensures c.higher-2.ensures c.above-all.ensures.levels c.above-all.ensures.probes
 
 pub expr::read_arguments-returns-in_err-args-clause-fails : goal.expr::read_arguments-returns-in_err-args-clause-fails
-expr::read_arguments-returns-in_err-args-clause-fails t c = λ e. arguments_broken _ _ _ _ _ _ _ _ c.in_default.ensures.found c.in_ok-first.ensures.found c.new-args.ensures.items c.in_ok-put.ensures.ok (c.in_err-args.ensures.fails (search rules))
+expr::read_arguments-returns-in_err-args-clause-fails t c = λ e. arguments_broken _ _ _ _ _ _ _ _ c.in_default.ensures.found c.in_ok-first.ensures.found c.new-args.ensures.items c.in_ok-put_inner.ensures.ok (c.in_err-args.ensures.fails (search rules))
 
 pub expr::read_arguments-returns-in-Some-past-clause-found : goal.expr::read_arguments-returns-in-Some-past-clause-found
-expr::read_arguments-returns-in-Some-past-clause-found t c = arguments_read _ _ _ _ _ _ _ _ _ _ _ _ c.in_default.ensures.found c.in_ok-first.ensures.found c.new-args.ensures.items c.in_ok-put.ensures.ok c.in_ok-args.ensures.found c.in-Some-past.ensures.found
+expr::read_arguments-returns-in-Some-past-clause-found t c = arguments_read _ _ _ _ _ _ _ _ _ _ _ _ c.in_default.ensures.found c.in_ok-first.ensures.found c.new-args.ensures.items c.in_ok-put_inner.ensures.ok c.in_ok-args.ensures.found c.in-Some-past.ensures.found
 
 pub expr::read_arguments-returns-in-None-clause-fails : goal.expr::read_arguments-returns-in-None-clause-fails
-expr::read_arguments-returns-in-None-clause-fails t c = λ e. arguments_unclosed _ _ _ _ _ _ _ _ _ _ _ c.in_default.ensures.found c.in_ok-first.ensures.found c.new-args.ensures.items c.in_ok-put.ensures.ok c.in_ok-args.ensures.found c.in-None.ensures.found
+expr::read_arguments-returns-in-None-clause-fails t c = λ e. arguments_unclosed _ _ _ _ _ _ _ _ _ _ _ c.in_default.ensures.found c.in_ok-first.ensures.found c.new-args.ensures.items c.in_ok-put_inner.ensures.ok c.in_ok-args.ensures.found c.in-None.ensures.found
 
 pub expr::read_cast-returns-in_err-operand-clause-fails : goal.expr::read_cast-returns-in_err-operand-clause-fails
 expr::read_cast-returns-in_err-operand-clause-fails t c = λ e. cast_unended _ _ _ _ _ _ _ _ c.requires.begins c.requires.type_there c.in_ok-type_name.ensures.found (c.in_err-operand.ensures.fails (search rules))
@@ -224,9 +224,9 @@ expr::read_closed-returns-in-Some-clause-found t c = mark_read c.args.mark c.arg
 pub expr::read_led-loop-inside-preserved : goal.expr::read_led-loop-inside-preserved
 expr::read_led-loop-inside-preserved t c = record {
   low = search rules;
-  measured = led_measured _ _ _ _ _ _ _ _ _ _ _ c.in_ok-node.ensures.found c.loop-inside.invariant.measured c.in_ok-put.ensures.ok c.higher.ensures c.higher-in-Some.ensures;
+  measured = led_measured _ _ _ _ _ _ _ _ _ _ _ c.in_ok-node.ensures.found c.loop-inside.invariant.measured c.in_ok-put_inner.ensures.ok c.higher.ensures c.higher-in-Some.ensures;
   no_longer = search rules;
-  on = led_further _ _ _ _ _ _ _ _ _ _ _ _ c.loop-inside.invariant.on c.in-Some.ensures.found c.in_ok-node.ensures.found c.in_ok-put.ensures.ok;
+  on = led_further _ _ _ _ _ _ _ _ _ _ _ _ c.loop-inside.invariant.on c.in-Some.ensures.found c.in_ok-node.ensures.found c.in_ok-put_inner.ensures.ok;
 }
 
 pub expr::read_led-returns-clause-found : goal.expr::read_led-returns-clause-found
@@ -236,31 +236,40 @@ pub expr::read_name-returns-in_ok-call_node-in-Some-clause-found : goal.expr::re
 expr::read_name-returns-in_ok-call_node-in-Some-clause-found t c = call_read _ _ _ _ _ _ _ _ _ _ _ _ c.requires.begins c.in-Some.ensures.found c.in_ok-args-in-Some.ensures.found c.first_place-pos.ensures c.in_ok-call_node-in-Some.ensures.ok c.above-in-Some.ensures.levels c.above-in-Some.ensures.probes
 
 pub expr::read_node-returns-then-level_of-least-clause-fails : goal.expr::read_node-returns-then-level_of-least-clause-fails
-expr::read_node-returns-then-level_of-least-clause-fails t c = λ e. node_loose _ _ _ _ _ _ _ _ (search rules) c.in_ok-first.ensures.found c.level_of.ensures.value (search rules)
+expr::read_node-returns-then-level_of-least-clause-fails t c = λ e. node_loose _ _ _ _ _ _ _ _ (search rules) c.in_ok-first.ensures.found (level_inner _ _ _ c.deref.ensures c.level_of.ensures.value) (search rules)
 
 pub expr::read_node-returns-clause-found : goal.expr::read_node-returns-clause-found
-expr::read_node-returns-clause-found t c = IfOk-weaker c.climb.result _ _ (λ p f. node_read _ _ _ _ _ _ _ _ _ _ _ (search rules) c.in_ok-first.ensures.found c.level_of.ensures.value (search rules) f) c.climb.ensures.found
+expr::read_node-returns-clause-found t c = IfOk-weaker c.climb.result _ _ (λ p f. node_read _ _ _ _ _ _ _ _ _ _ _ (search rules) c.in_ok-first.ensures.found (level_inner _ _ _ c.deref.ensures c.level_of.ensures.value) (search rules) f) c.climb.ensures.found
 
 pub expr::read_node-returns-clause-fails : goal.expr::read_node-returns-clause-fails
-expr::read_node-returns-clause-fails t c = λ e. node_unended _ _ _ _ _ _ _ _ (search rules) c.in_ok-first.ensures.found c.level_of.ensures.value (search rules) (c.climb.ensures.fails e)
-
-pub expr::read_probed-returns-in_default-around-clause-fails : goal.expr::read_probed-returns-in_default-around-clause-fails
-expr::read_probed-returns-in_default-around-clause-fails t c = λ e. probed_too_many _ _ _ _ _ _ _ _ _ _ _ c.in_ok-inner.ensures.found c.in-Some.ensures.found c.requires.measured c.in_default-around.ensures.few
-
-pub expr::read_probed-returns-clause-found : goal.expr::read_probed-returns-clause-found
-expr::read_probed-returns-clause-found t c = probed_read _ _ _ _ _ _ _ _ _ _ _ _ _ c.in_ok-inner.ensures.found c.in-Some.ensures.found c.requires.measured c.in-Some-around.ensures.few c.in_ok-probe_node.ensures.ok c.in-Some-around.ensures.levels c.in-Some-around.ensures.probes
-
-pub expr::read_select-returns-clause-found : goal.expr::read_select-returns-clause-found
-expr::read_select-returns-clause-found t c = IfOk-weaker c.read_probed.result _ _ (λ p f. select_read _ _ _ _ _ _ _ _ _ _ _ _ _ _ _ c.requires.begins c.first_place.ensures (search rules) c.in-Some.ensures.found c.in_ok-cases.ensures.found c.in-Some-past.ensures.found c.in_ok-form.ensures.ok f) c.read_probed.ensures.found
-
-pub expr::read_select-returns-clause-fails : goal.expr::read_select-returns-clause-fails
-expr::read_select-returns-clause-fails t c = λ e. select_unread _ _ _ _ _ _ _ _ _ _ _ _ c.requires.begins c.first_place.ensures (search rules) c.in-Some.ensures.found c.in_ok-cases.ensures.found c.in-Some-past.ensures.found c.in_ok-form.ensures.ok (c.read_probed.ensures.fails e)
-
-pub expr::read_simple-returns-clause-found : goal.expr::read_simple-returns-clause-found
-expr::read_simple-returns-clause-found t c = IfOk-weaker c.read_probed.result _ _ (λ p f. simple_read _ _ _ _ _ _ _ _ _ _ _ _ _ _ c.requires.begins c.first_place.ensures (search rules) c.in-Some.ensures.found c.in-Some-past.ensures.found c.probe_bound-least.ensures.value c.in_ok-form.ensures.ok f) c.read_probed.ensures.found
+expr::read_node-returns-clause-fails t c = λ e. node_unended _ _ _ _ _ _ _ _ (search rules) c.in_ok-first.ensures.found (level_inner _ _ _ c.deref.ensures c.level_of.ensures.value) (search rules) (c.climb.ensures.fails e)
 
 pub expr::read_typed-returns-in-None-clause-fails : goal.expr::read_typed-returns-in-None-clause-fails
 expr::read_typed-returns-in-None-clause-fails t c = λ e. typed_unclosed _ _ _ _ _ _ c.in_ok-type_name.ensures.found c.in-None.ensures.found
 
 pub expr::read_typed-returns-in-Some-clause-found : goal.expr::read_typed-returns-in-Some-clause-found
 expr::read_typed-returns-in-Some-clause-found t c = typed_read _ _ _ _ _ _ _ c.in_ok-type_name.ensures.found c.in-Some.ensures.found
+
+pub expr::read_select-returns-clause-found : goal.expr::read_select-returns-clause-found
+expr::read_select-returns-clause-found t c = select_read _ _ _ _ _ _ _ _ _ _ _ _ _ _ _ c.requires.begins c.first_place.ensures (search rules) c.in-Some.ensures.found c.in_ok-cases.ensures.found c.in-Some-past.ensures.found c.in_ok-inner.ensures.found c.in_ok-node.ensures.ok
+
+pub expr::read_select-returns-in_err-inner-clause-fails : goal.expr::read_select-returns-in_err-inner-clause-fails
+expr::read_select-returns-in_err-inner-clause-fails t c = λ e. select_unread _ _ _ _ _ _ _ _ _ _ c.requires.begins (search rules) c.in-Some.ensures.found c.in_ok-cases.ensures.found c.in-Some-past.ensures.found (c.in_err-inner.ensures.fails (search rules))
+
+pub expr::read_simple-returns-clause-found : goal.expr::read_simple-returns-clause-found
+expr::read_simple-returns-clause-found t c = simple_read _ _ _ _ _ _ _ _ _ _ _ _ _ _ _ c.requires.begins c.first_place.ensures (search rules) c.in-Some.ensures.found c.in-Some-past.ensures.found c.probe_bound-least.ensures.value refl refl c.in_ok-inner.ensures.found c.in_ok-node.ensures.ok
+
+pub expr::read_simple-returns-in_err-inner-clause-fails : goal.expr::read_simple-returns-in_err-inner-clause-fails
+expr::read_simple-returns-in_err-inner-clause-fails t c = λ e. simple_unread _ _ _ _ _ _ _ _ _ _ c.requires.begins (search rules) c.in-Some.ensures.found c.in-Some-past.ensures.found c.probe_bound-least.ensures.value refl refl (c.in_err-inner.ensures.fails (search rules))
+
+pub expr::grow_infix-returns-clause-found : goal.expr::grow_infix-returns-clause-found
+expr::grow_infix-returns-clause-found t c = infix_read c.args.depth c.args.probes _ (node_shape c.args.left.value) _ _ _ _ _ _ c.args.op_pos (infix_of c.args.op) _ _ c.right_bound.ensures.value c.in_ok-right.ensures.found c.requires.measured c.in_ok-infix_node.ensures.ok c.higher.ensures c.above-all.ensures.levels c.above-all.ensures.probes
+
+pub expr::read_prefix-returns-in_ok-node-in-None-clause-found : goal.expr::read_prefix-returns-in_ok-node-in-None-clause-found
+expr::read_prefix-returns-in_ok-node-in-None-clause-found t c = prefix_read c.args.depth c.args.probes _ (node_shape c.in_ok-operand-in-None.operand.value) _ _ _ (prefix_of c.args.op) _ _ _ c.requires.begins c.in-None.ensures.found c.prefix_bound.ensures.value c.in_ok-operand-in-None.ensures.found (c.in_ok-node-in-None.ensures.ok ∙ ap (λ q. node q q bare (prefix (prefix_of c.args.op) (node_shape c.in_ok-operand-in-None.operand.value))) c.first_place-pos.ensures) c.above-in-None.ensures.levels c.above-in-None.ensures.probes
+
+pub expr::read_inside-returns-in_default-clause-fails : goal.expr::read_inside-returns-in_default-clause-fails
+expr::read_inside-returns-in_default-clause-fails t c = λ e. inside_unclosed _ _ _ _ c.args.cases _ _ _ c.in_ok-inner.ensures.found c.in_default.ensures.found
+
+pub expr::read_inside-returns-in-None-clause-fails : goal.expr::read_inside-returns-in-None-clause-fails
+expr::read_inside-returns-in-None-clause-fails t c = λ e. inside_too_many _ _ _ _ c.args.cases _ _ _ _ c.in_ok-inner.ensures.found c.in-Some.ensures.found c.in-None.ensures.few

@@ -210,15 +210,15 @@ decreases-expr::read_select l = 8 * length l.input.now
 abbrev pub decreases-expr::read_cases : goal.decreases-expr::read_cases
 decreases-expr::read_cases l = 8 * length l.input.now + 1
 
-abbrev pub decreases-expr::read_probed : goal.decreases-expr::read_probed
-decreases-expr::read_probed l = 8 * length l.input.now + 3
+abbrev pub decreases-expr::read_inside : goal.decreases-expr::read_inside
+decreases-expr::read_inside l = 8 * length l.input.now + 3
 
 abbrev pub invariant-expr::climb-loop-op : goal.invariant-expr::climb-loop-op
 invariant-expr::climb-loop-op l = record {
   low : l.size.levels + l.depth ≤ 400;
-  measured : Measured (node_shape l.node) l.size;
+  measured : Measured (node_shape l.node.value) l.size;
   no_longer : length l.rest ≤ length l.input;
-  on : ClimbsFrom l.least l.depth l.probes (node_shape l.fn.first) (node_shape l.node) l.input l.rest;
+  on : ClimbsFrom l.least l.depth l.probes (node_shape l.fn.first.value) (node_shape l.node.value) l.input l.rest;
 }
 
 abbrev pub decreases-expr::climb-loop-op : goal.decreases-expr::climb-loop-op

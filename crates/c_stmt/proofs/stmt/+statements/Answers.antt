@@ -1,7 +1,7 @@
 use Rattle.std.proofs.Common.{rules, refl, ap, ◌∙◌}
 use Rattle.c_syntax.specs.Forms.{place}
 use Rattle.c_syntax.specs.Shape.{stmt}
-use Rattle.c_syntax.specs.View.{form_shape}
+use Rattle.c_syntax.specs.View.{form_shape, stmt_shape}
 use Rattle.c_forms.proofs.StmtSteps.{stmt_fails}
 use Rattle.c_forms.proofs.StmtRead.{while_read, while_unread, when_read, either_read, if_unread, else_unread, do_read, do_bare, do_unread, do_open, for_read, for_unread, switch_read, switch_braceless, switch_unread, switch_unclosed, compound_read, compound_unread, compound_unclosed, item_plain, item_labelled, item_plain_unread, item_labelled_unread, items_measured, items_further, where_ok, braced_read, at_if, at_while, at_do, at_for, at_switch, stmt_read}
 use Rattle.c_stmt.proofs.stmt.+statements.Goals as goal
@@ -11,21 +11,21 @@ read_while-returns-in_err-body-clause-fails t c = λ e.
     while_unread _ _ _ _ _ c.in_ok-test.ensures.found (c.in_err-body.ensures.fails (search rules))
 
 pub read_while-returns-clause-found : goal.read_while-returns-clause-found
-read_while-returns-clause-found t c = while_read _ _ _ _ _ _ _ _ _ _ c.in_ok-test.ensures.found c.in_ok-body.ensures.found c.in_ok-while_form.ensures.ok (search rules)
+read_while-returns-clause-found t c = while_read _ _ _ _ _ _ _ _ _ _ c.in_ok-test.ensures.found c.in_ok-body.ensures.found c.while_form.ensures (search rules)
 
 pub read_if-returns-in_err-body-clause-fails : goal.read_if-returns-in_err-body-clause-fails
 read_if-returns-in_err-body-clause-fails t c = λ e.
     if_unread _ _ _ _ _ c.in_ok-test.ensures.found (c.in_err-body.ensures.fails (search rules))
 
 pub read_if-returns-in_default-clause-found : goal.read_if-returns-in_default-clause-found
-read_if-returns-in_default-clause-found t c = when_read _ _ _ _ _ _ _ _ _ _ c.in_ok-test.ensures.found c.in_ok-body.ensures.found c.in_default.ensures.found c.in_ok-when_form.ensures.ok (search rules)
+read_if-returns-in_default-clause-found t c = when_read _ _ _ _ _ _ _ _ _ _ c.in_ok-test.ensures.found c.in_ok-body.ensures.found c.in_default.ensures.found c.when_form.ensures (search rules)
 
 pub read_if-returns-in_err-last-clause-fails : goal.read_if-returns-in_err-last-clause-fails
 read_if-returns-in_err-last-clause-fails t c = λ e.
     else_unread _ _ _ _ _ _ _ _ _ c.in_ok-test.ensures.found c.in_ok-body.ensures.found c.in-Some.ensures.found (c.in_err-last.ensures.fails (search rules))
 
 pub read_if-returns-clause-found : goal.read_if-returns-clause-found
-read_if-returns-clause-found t c = either_read _ _ _ _ c.higher.result _ _ _ _ _ _ _ _ _ _ c.in_ok-test.ensures.found c.in_ok-body.ensures.found c.in-Some.ensures.found c.in_ok-last.ensures.found c.in_ok-either_form.ensures.ok (search rules) (search rules)
+read_if-returns-clause-found t c = either_read _ _ _ _ c.higher.result _ _ _ _ _ _ _ _ _ _ c.in_ok-test.ensures.found c.in_ok-body.ensures.found c.in-Some.ensures.found c.in_ok-last.ensures.found c.either_form.ensures (search rules) (search rules)
 
 pub read_do-returns-in_default-clause-fails : goal.read_do-returns-in_default-clause-fails
 read_do-returns-in_default-clause-fails t c = λ e.
@@ -40,14 +40,14 @@ read_do-returns-in_default-past-clause-fails t c = λ e.
     do_open _ _ _ _ _ _ _ _ _ c.in_ok-body.ensures.found c.in-Some.ensures.found c.in_ok-test.ensures.found c.in_default-past.ensures.found
 
 pub read_do-returns-clause-found : goal.read_do-returns-clause-found
-read_do-returns-clause-found t c = do_read _ _ _ _ _ _ _ _ _ _ _ _ c.in_ok-body.ensures.found c.in-Some.ensures.found c.in_ok-test.ensures.found c.in-Some-past.ensures.found c.in_ok-do_form.ensures.ok (search rules)
+read_do-returns-clause-found t c = do_read _ _ _ _ _ _ _ _ _ _ _ _ c.in_ok-body.ensures.found c.in-Some.ensures.found c.in_ok-test.ensures.found c.in-Some-past.ensures.found c.do_form.ensures (search rules)
 
 pub read_for-returns-in_err-body-clause-fails : goal.read_for-returns-in_err-body-clause-fails
 read_for-returns-in_err-body-clause-fails t c = λ e.
     for_unread _ _ _ _ _ _ _ c.in_ok-head.ensures.found (c.in_err-body.ensures.fails (search rules))
 
 pub read_for-returns-clause-found : goal.read_for-returns-clause-found
-read_for-returns-clause-found t c = for_read _ _ _ _ _ _ _ _ _ _ _ _ c.in_ok-head.ensures.found c.in_ok-body.ensures.found c.in_ok-for_form.ensures.ok (search rules)
+read_for-returns-clause-found t c = for_read _ _ _ _ _ _ _ _ _ _ _ _ c.in_ok-head.ensures.found c.in_ok-body.ensures.found c.for_form.ensures (search rules)
 
 pub read_switch-returns-in_default-clause-fails : goal.read_switch-returns-in_default-clause-fails
 read_switch-returns-in_default-clause-fails t c = λ e.
@@ -80,14 +80,14 @@ read_item-returns-in_err-stmt-clause-fails t c = λ e.
     item_plain_unread _ _ _ _ _ c.requires.more c.in_ok-labels.ensures.found (search rules) (c.in_err-stmt.ensures.fails (search rules))
 
 pub read_item-returns-then-is_empty-clause-found : goal.read_item-returns-then-is_empty-clause-found
-read_item-returns-then-is_empty-clause-found t c = item_plain _ _ _ _ _ _ _ c.requires.more c.in_ok-labels.ensures.found (search rules) c.in_ok-stmt.ensures.found
+read_item-returns-then-is_empty-clause-found t c = item_plain _ _ _ _ _ _ _ _ c.requires.more c.in_ok-labels.ensures.found (search rules) c.into_inner-stmt.ensures c.in_ok-stmt.ensures.found
 
 pub read_item-returns-in_err-stmt-2-clause-fails : goal.read_item-returns-in_err-stmt-2-clause-fails
 read_item-returns-in_err-stmt-2-clause-fails t c = λ e.
     item_labelled_unread _ _ _ _ _ c.requires.more c.in_ok-labels.ensures.found (search rules) (c.in_err-stmt-2.ensures.fails (search rules))
 
 pub read_item-returns-clause-found : goal.read_item-returns-clause-found
-read_item-returns-clause-found t c = item_labelled _ _ _ c.higher-levels.result _ _ _ _ _ c.requires.more c.in_ok-labels.ensures.found (search rules) c.in_ok-stmt-2.ensures.found (search rules) (search rules)
+read_item-returns-clause-found t c = item_labelled _ _ _ c.higher-levels.result _ _ _ _ _ _ c.requires.more c.in_ok-labels.ensures.found (search rules) c.into_inner-stmt-2.ensures c.in_ok-stmt-2.ensures.found (search rules) (search rules)
 
 pub read_items-loop-alloc-preserved : goal.read_items-loop-alloc-preserved
 read_items-loop-alloc-preserved t c = record {
@@ -120,4 +120,4 @@ read_statement-returns-in_err-form-clause-fails t c = λ e.
     stmt_fails _ _ _ _ (search rules) c.in_ok-probes.ensures.found (c.in_err-form.ensures.fails (search rules))
 
 pub read_statement-returns-clause-found : goal.read_statement-returns-clause-found
-read_statement-returns-clause-found t c = stmt_read _ _ _ _ _ _ _ _ _ (search rules) c.in_ok-probes.ensures.found c.in_ok-form.ensures.found (ap (λ p. stmt p c.in_ok-probes.probes.items c.first_place-at.result (form_shape c.in_ok-form.form)) c.first_place-pos.ensures ∙ ap (λ q. stmt (place c.args.input.now) c.in_ok-probes.probes.items q (form_shape c.in_ok-form.form)) c.first_place-at.ensures) refl
+read_statement-returns-clause-found t c = stmt_read _ _ _ _ _ _ _ _ _ (search rules) c.in_ok-probes.ensures.found c.in_ok-form.ensures.found (ap stmt_shape c.in_ok-stmt.ensures.ok ∙ ap (λ p. stmt p c.in_ok-probes.probes.items c.first_place-at.result (form_shape c.in_ok-form.form)) c.first_place-pos.ensures ∙ ap (λ q. stmt (place c.args.input.now) c.in_ok-probes.probes.items q (form_shape c.in_ok-form.form)) c.first_place-at.ensures) refl
