@@ -4,7 +4,7 @@ ghost use Rattle.std.specs.Prelude.{◌≡◌, map, OnOk, IfOk};
 ghost use Rattle.c_kinds.specs.Kinds.{type_in};
 ghost use Rattle.c_tree.specs.State.{field_type};
 ghost use Rattle.c_tree.specs.Tables.{field_shape};
-ghost use Rattle.c_tree.specs.Parts.{is_free, field_text, name_pos, with_field, field_state};
+ghost use Rattle.c_tree.specs.Parts.{is_free, text_of, name_pos, with_field, field_state};
 ghost use Rattle.c_checker.specs.CheckerView.{state_of};
 
 use atac_base::place::{NoMemory, Pos};
@@ -24,8 +24,8 @@ pub fn is_free(fields: &[FieldRow], name: &[u8]) -> bool
 }
 
 /// The name of a declarator, which is empty where there is none.
-pub fn field_text(name: &Option<Named>) -> &[u8]
-    ensures { result.now ≡ field_text name.now }
+pub fn text_of(name: &Option<Named>) -> &[u8]
+    ensures { result.now ≡ text_of name.now }
 {
     match name {
         None => &[],

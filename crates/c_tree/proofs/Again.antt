@@ -11,7 +11,7 @@ use Rattle.c_tree.specs.State.{State, step, steps, complain, demand, is_clean}
 use Rattle.c_tree.specs.Rulings.{rule, kind_at}
 use Rattle.c_tree.specs.Sorts.{Formed, formed, TypedNode, TypedType, noted, pos_in}
 use Rattle.c_tree.specs.Operators.{Given, given_at, claim, called, typed_call, typed_cast, typed_index, typed_infix, typed_choice, typed_select}
-use Rattle.c_tree.specs.Parts.{Length, length_of, left_out, judged_length, TypedLengths, one_length, open_length, judged_constant, TypedCases, one_case, TypedNodes, one_more, Spelled, unspelled, spelled_rule, with_tagged, more_spec, TypedSpecs, TypedSpec, TypedDecls, TypedNames, star_tokens, pointed, arrays_of, is_free, field_text, with_field, field_state, name_pos, entity_of, declare, after, TypedRows, Valued, given_value, tag_tokens, enumeration, kind_if, opened, begun_at, within, outside, closed, structure_kind}
+use Rattle.c_tree.specs.Parts.{Length, length_of, left_out, judged_length, TypedLengths, one_length, open_length, judged_constant, TypedCases, one_case, TypedNodes, one_more, Spelled, unspelled, spelled_rule, with_tagged, more_spec, TypedSpecs, TypedSpec, TypedDecls, TypedNames, star_tokens, pointed, arrays_of, is_free, text_of, with_field, field_state, name_pos, entity_of, declare, after, TypedRows, Valued, given_value, tag_tokens, enumeration, kind_if, opened, begun_at, within, outside, closed, structure_kind}
 use Rattle.c_tree.specs.State.{field_type}
 use Rattle.c_tree.specs.Typing.{type_node, type_form, type_arguments, type_cases, type_type, type_lengths, type_specs, type_struct, type_lines, type_fields, type_enum, type_rows, type_value, opening}
 
@@ -154,13 +154,13 @@ mutual
   fields_again p k j no_declarators fields others s u = refl
   fields_again p k j (more_declarators (declarator stars x (arrays ls) i) rest) fields others s u =
       let m = type_lengths [] ls (step (steps (star_tokens stars) s)) in
-      let free = is_free (field_type (field_text x) fields) in
+      let free = is_free (field_type (text_of x) fields) in
       let e = arrays_of m.counts (pointed stars k) in
       let w = step (field_state (steps (star_tokens stars) s).at (name_pos p x) free e m.state) in
-      let y = (type_fields p k rest (with_field free (field_text x) e fields) w).names in
+      let y = (type_fields p k rest (with_field free (text_of x) e fields) w).names in
       chain (member stars x i)
-      (λ l. type_fields p j y (with_field (is_free (field_type (field_text x) others)) (field_text x) (arrays_of l.counts (pointed stars j)) others) (step (field_state (steps (star_tokens stars) u).at (name_pos p x) (is_free (field_type (field_text x) others)) (arrays_of l.counts (pointed stars j)) l.state)))
-      (λ l. type_fields p j rest (with_field (is_free (field_type (field_text x) others)) (field_text x) (arrays_of l.counts (pointed stars j)) others) (step (field_state (steps (star_tokens stars) u).at (name_pos p x) (is_free (field_type (field_text x) others)) (arrays_of l.counts (pointed stars j)) l.state))) _ _ (lengths_again [] [] ls _ (step (steps (star_tokens stars) u))) (λ l. fields_again p k j rest (with_field free (field_text x) e fields) _ w _)
+      (λ l. type_fields p j y (with_field (is_free (field_type (text_of x) others)) (text_of x) (arrays_of l.counts (pointed stars j)) others) (step (field_state (steps (star_tokens stars) u).at (name_pos p x) (is_free (field_type (text_of x) others)) (arrays_of l.counts (pointed stars j)) l.state)))
+      (λ l. type_fields p j rest (with_field (is_free (field_type (text_of x) others)) (text_of x) (arrays_of l.counts (pointed stars j)) others) (step (field_state (steps (star_tokens stars) u).at (name_pos p x) (is_free (field_type (text_of x) others)) (arrays_of l.counts (pointed stars j)) l.state))) _ _ (lengths_again [] [] ls _ (step (steps (star_tokens stars) u))) (λ l. fields_again p k j rest (with_field free (text_of x) e fields) _ w _)
   fields_again p k j (more_declarators (declarator stars x (function ps) i) rest) fields others s u = rw (fields_again p k j rest fields others _ _) refl
 
   pub rows_again : (v w : Option ℤ) (es : EnumerShapes) (s u : State) → type_rows w (type_rows v es s).rows u ≡ type_rows w es u

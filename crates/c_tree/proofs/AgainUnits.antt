@@ -5,17 +5,17 @@ use Rattle.atac_base.specs.declared.place.Pos.{Pos}
 use Rattle.c_syntax.specs.Shape.{TypeOf, Leaf, number, char, str, name, Prefix, unary, before, size_of, NodeShape, node, ExprShape, leaf, paren, call, prefix, size_of_type, cast, suffix, two, choose, probe, SuffixShape, index, field, behind, ProbeShape, simple, select, InitShape, one, listed, InitShapes, no_inits, more_inits, MaybeInit, no_init, one_init, MaybeNode, no_node, one_node, LabelShape, case, default, StmtShape, stmt, FormShape, compound, simply, when, either, while, do_while, for, switch, break, continue, return, CompoundShape, braces, ItemShapes, no_items, more_items, ExternalShape, defined, declared, UnitShape, LengthShapes, SpecShapes, DeclShape, decl, DeclShapes, no_decls, more_decls, DeclaratorShape, declarator, DeclaratorShapes, no_declarators, more_declarators, DeclFormShape, arrays, function, ParamsShape, empty, void, params}
 use Rattle.c_syntax.specs.declared.tree.Named.{Named}
 use Rattle.c_syntax.specs.declared.tree.Star.{Star}
-use Rattle.c_tree.specs.State.{State, step, steps}
+use Rattle.c_tree.specs.State.{State, first_place, step, steps}
 use Rattle.c_tree.specs.Rulings.{rule, of_kind, kind_at, by}
 use Rattle.c_values.specs.Constants as constants
 use Rattle.c_tree.specs.Stating.{Surroundings, in_loop, in_switch, Labels, no_labels, tested, switched, TypedMaybe, TypedLabels, type_maybe, type_test, type_result, type_marks, case_state, case_labels, default_labels, one_label, type_labels, TypedStmt, TypedBody, TypedCompound, TypedItems, type_stmt, type_body, type_compound, type_items}
-use Rattle.c_tree.specs.Parts.{judged_constant, Length, counted, left_out, unclear, TypedLengths, TypedSpecs, pointed, star_tokens, unspelled, spelled_rule}
-use Rattle.c_tree.specs.Declaring.{TypedFunction, name_tokens, claim_name, text_of, place_of_name, token_of_name, declare_variable, variable_rule, has_init, TypedMaybeInit, an_init, type_maybe_init, TypedDeclarator, type_variable, TypedParam, TypedParams, declare_parameter, parameter_rule, name_demand, type_param, one_param, type_param_list, listed_params, type_params, type_function, TypedDeclarators, plain_declarator, type_declarator, type_declarators, none_declared, semicolon, opened_scope, closed_scope, TypedDecl, type_decl, TypedDeclList, type_decls}
+use Rattle.c_tree.specs.Parts.{text_of, name_pos, judged_constant, Length, counted, left_out, unclear, TypedLengths, TypedSpecs, pointed, star_tokens, unspelled, spelled_rule}
+use Rattle.c_tree.specs.Declaring.{TypedFunction, name_tokens, claim_name, token_of_name, declare_variable, variable_rule, has_init, TypedMaybeInit, an_init, type_maybe_init, TypedDeclarator, type_variable, TypedParam, TypedParams, declare_parameter, parameter_rule, name_demand, type_param, one_param, type_param_list, listed_params, type_params, type_function, TypedDeclarators, plain_declarator, type_declarator, type_declarators, none_declared, semicolon, opened_scope, closed_scope, TypedDecl, type_decl, TypedDeclList, type_decls}
 use Rattle.c_tree.specs.Sorts.{TypedNode, pos_in}
 use Rattle.c_tree.specs.Operators.{hushed}
 use Rattle.c_tree.specs.Typing.{type_node, type_form, type_specs, type_lengths}
 use Rattle.c_tree.specs.Initialisers.{TypedInit, TypedInits, one_item, form_in, filled, chars_of, one_init_of, string_init, value_init, slots, slot, slot_rule, further, Slots, init_pos, list_rule, list_end, type_init, type_inits, length_in, length_in_form, count_items, lengths_with}
-use Rattle.c_tree.specs.Units.{begun_function, ended_function, TypedExternal, first_place, type_external, TypedExternals, type_externals, type_line, start, type_unit}
+use Rattle.c_tree.specs.Units.{begun_function, ended_function, TypedExternal, type_external, TypedExternals, type_externals, type_line, start, type_unit}
 use Rattle.c_kinds.specs.Verdicts.{result_type}
 use Rattle.c_syntax.specs.declared.tree.ProbeMark.{ProbeMark}
 use Rattle.c_tree.proofs.Again.{chain, node_again, pos_again, specs_again, lengths_again}
@@ -137,7 +137,7 @@ abbrev behind_lengths : Option TypeOf → List Star → Option Named → State �
 behind_lengths k stars x u i l cs =
     let begun = steps (star_tokens stars) u in
     let token = token_of_name begun.at x begun in
-    let p = place_of_name record { line = 1; col = 1 } x in
+    let p = name_pos first_place x in
     let r = variable_rule l.state.rooms cs (pointed stars k) in
     type_maybe_init (nat_eq u.function 0) (kind_at r) i (declare_variable token p (text_of x) (kind_at r) (rule r token p l.state))
 
@@ -163,7 +163,7 @@ param_of defining p stars x i s t l =
     record {
       param = decl p t.specs (more_declarators (declarator stars x (arrays l.lengths) i) no_declarators);
       kind = kind_at k;
-      state = declare_parameter token x (kind_at k) (rule k token (place_of_name p x) (name_demand defining x s.at p l.state));
+      state = declare_parameter token x (kind_at k) (rule k token (name_pos p x) (name_demand defining x s.at p l.state));
     }
 
 abbrev param_lengths : Bool → Pos → List Star → Option Named → State → TypedSpecs → State

@@ -16,16 +16,16 @@ use Rattle.c_tree.specs.declared.meaning.Entity.TheVariants as entity
 use Rattle.c_tree.specs.declared.meaning.Builtin.{Builtin}
 use Rattle.c_tree.specs.declared.meaning.Builtin.TheVariants.{GetChar, PutChar, Exit}
 use Rattle.c_tree.specs.Builtins.{builtin_name, builtin_result, builtin_params}
-use Rattle.c_tree.specs.State.{State, step, steps, complain, demand, is_clean, row, is_function, Numbered, mention}
+use Rattle.c_tree.specs.State.{State, first_place, step, steps, complain, demand, is_clean, row, is_function, Numbered, mention}
 use Rattle.c_tree.specs.Rulings.{Ruled, allowed, unsettled, refused, by, kind_at, rule, of_kind, whole}
 use Rattle.c_tree.specs.Operators.{claim}
-use Rattle.c_tree.specs.Parts.{Length, counted, left_out, unclear, TypedLengths, pointed, star_tokens, arrays_of, unspelled, spelled_rule, with_name}
+use Rattle.c_tree.specs.Parts.{Length, counted, left_out, unclear, TypedLengths, pointed, star_tokens, arrays_of, unspelled, spelled_rule, with_name, text_of, name_pos}
 use Rattle.c_tree.specs.Initialisers.{lengths_with, TypedInit, type_init}
 use Rattle.c_tree.specs.Typing.{type_specs, type_lengths}
 
 -- ---- declared names
 
--- the tokens of a name with the probe round it, and those before the name itself
+-- the tokens of a name with the probe round it
 abbrev pub probe_tokens : ℕ → Option ProbeMark → ℕ
 probe_tokens n None = 0
 probe_tokens n (Some m) = n
@@ -33,10 +33,6 @@ probe_tokens n (Some m) = n
 abbrev pub name_tokens : Option Named → ℕ
 name_tokens None = 0
 name_tokens (Some x) = 1 + probe_tokens 5 x.probe
-
-abbrev pub before_name : Option Named → ℕ
-before_name None = 0
-before_name (Some x) = probe_tokens 4 x.probe
 
 -- a probe round a name, at its word: its number, and whether one may stand there
 abbrev pub claim_mark : Bool → Option ProbeMark → State → State
@@ -46,15 +42,6 @@ claim_mark fits (Some m) s = demand fits 37 s.at m.pos (claim def m.number s.at 
 abbrev pub claim_name : Bool → Option Named → State → State
 claim_name fits None s = s
 claim_name fits (Some x) s = claim_mark fits x.probe s
-
-abbrev pub text_of : Option Named → Text
-text_of None = []
-text_of (Some x) = x.text
-
--- where a name is complained of: itself, or the first token of its parameter
-abbrev pub place_of_name : Pos → Option Named → Pos
-place_of_name p None = p
-place_of_name p (Some x) = x.pos
 
 abbrev pub token_of_name : ℕ → Option Named → State → ℕ
 token_of_name first None s = first
@@ -130,7 +117,7 @@ type_variable k stars x ls i s =
     let l = type_lengths [] ls (steps (name_tokens x) (claim_name (nat_eq s.function 0 || has_init i) x begun)) in
     let token = token_of_name begun.at x begun in
     let r = variable_rule l.state.rooms (lengths_with i l.counts) (pointed stars k) in
-    let d = declare_variable token (place_of_name record { line = 1; col = 1 } x) (text_of x) (kind_at r) (rule r token (place_of_name record { line = 1; col = 1 } x) l.state) in
+    let d = declare_variable token (name_pos first_place x) (text_of x) (kind_at r) (rule r token (name_pos first_place x) l.state) in
     let j = type_maybe_init (nat_eq s.function 0) (kind_at r) i d in
     record { name = declarator stars x (arrays l.lengths) j.init; state = j.state }
 
@@ -187,7 +174,7 @@ type_param defining p specs stars x ls i s =
     let l = type_lengths [] ls (steps (name_tokens x) (claim_name defining x begun)) in
     let token = token_of_name s.at x begun in
     let k = parameter_rule l.counts (pointed stars (kind_at r)) in
-    let d = declare_parameter token x (kind_at k) (rule k token (place_of_name p x) (name_demand defining x s.at p l.state)) in
+    let d = declare_parameter token x (kind_at k) (rule k token (name_pos p x) (name_demand defining x s.at p l.state)) in
     record { param = decl p t.specs (more_declarators (declarator stars x (arrays l.lengths) i) no_declarators); kind = kind_at k; state = d }
 
 abbrev pub one_param : Option Named → TypedParam → TypedParams → TypedParams
@@ -200,7 +187,7 @@ type_param_list defining (more_decls (decl p specs (more_declarators (declarator
     let a = type_param defining p specs stars x ls i s in
     one_param x a (type_param_list defining rest (step a.state))
 type_param_list defining (more_decls d rest) s =
-    let r = type_param_list defining rest (step (complain 33 s.at record { line = 1; col = 1 } s)) in
+    let r = type_param_list defining rest (step (complain 33 s.at first_place s)) in
     record r { params = more_decls d r.params }
 
 pub record TypedSignature : Type 0 where
@@ -311,7 +298,7 @@ abbrev pub type_function : Bool → Option TypeOf → List Star → Option Named
 type_function defining k stars x ps i s =
     let begun = steps (star_tokens stars) s in
     let token = token_of_name begun.at x begun in
-    let p = place_of_name record { line = 1; col = 1 } x in
+    let p = name_pos first_place x in
     let r = by 33 (result_type (pointed stars k)) in
     let q = type_params defining ps (record (opened_scope (steps (name_tokens x) (claim_name false x begun))) { file = false }) in
     let f = signature_of (kind_at r) (all_kinds q.given) in

@@ -158,9 +158,6 @@ more_spec p f r = record { specs = more_specs p f r.specs; spelled = r.spelled; 
 
 -- ---- tags
 
-abbrev pub tagged_structure : ℕ → Option TypeOf
-tagged_structure n = Some (structure n)
-
 -- a structure that wasn't there before
 abbrev pub with_structure : Option Text → State → State
 with_structure t s = record s {
@@ -258,9 +255,9 @@ abbrev pub is_free : Option TypeOf → Bool
 is_free None = true
 is_free (Some t) = false
 
-abbrev pub field_text : Option Named → Text
-field_text None = []
-field_text (Some x) = x.text
+abbrev pub text_of : Option Named → Text
+text_of None = []
+text_of (Some x) = x.text
 
 abbrev pub name_pos : Pos → Option Named → Pos
 name_pos p None = p

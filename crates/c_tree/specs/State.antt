@@ -45,6 +45,10 @@ pub record State : Type 0 where
 
 -- ---- tokens and complaints
 
+-- where nothing stands that could be complained of
+abbrev pub first_place : Pos
+first_place = record { line = 1; col = 1 }
+
 -- behind so many further tokens; numbers are kept up to the greatest of 32 bits
 abbrev pub steps : ℕ → State → State
 steps n s = record s { at = min (s.at + n) (2 ^ 32 - 1) }

@@ -14,7 +14,7 @@ use Rattle.c_tree.specs.State.{State, steps, step, complain, demand, is_clean, f
 use Rattle.c_tree.specs.Rulings.{by, kind_at, rule}
 use Rattle.c_tree.specs.Sorts.{Formed, formed, TypedNode, TypedType, noted, pos_in}
 use Rattle.c_tree.specs.Operators.{Given, given_at, typed_number, typed_char, typed_string, typed_name, called, typed_call, typed_paren, typed_unary, typed_step, hushed, heard, typed_size, typed_type_size, typed_cast, typed_infix, typed_choice, typed_index, typed_field, claim, typed_probe, typed_select}
-use Rattle.c_tree.specs.Parts.{Length, left_out, length_of, TypedNodes, no_more, one_more, TypedCases, no_cases, judged_constant, one_case, TypedLengths, no_more_lengths, judged_length, open_length, one_length, pointed, star_tokens, arrays_of, Spelled, TypedSpecs, TypedSpec, unspelled, with_word, with_tagged, static_fits, spelled_rule, more_spec, begun_at, opened, tag_tokens, closed, structure_kind, kind_if, within, outside, TypedDecls, TypedNames, is_free, field_text, name_pos, with_field, field_state, TypedRows, Valued, given_value, next_value, entity_of, declare, after, enumeration}
+use Rattle.c_tree.specs.Parts.{Length, left_out, length_of, TypedNodes, no_more, one_more, TypedCases, no_cases, judged_constant, one_case, TypedLengths, no_more_lengths, judged_length, open_length, one_length, pointed, star_tokens, arrays_of, Spelled, TypedSpecs, TypedSpec, unspelled, with_word, with_tagged, static_fits, spelled_rule, more_spec, begun_at, opened, tag_tokens, closed, structure_kind, kind_if, within, outside, TypedDecls, TypedNames, is_free, text_of, name_pos, with_field, field_state, TypedRows, Valued, given_value, next_value, entity_of, declare, after, enumeration}
 
 -- the parenthesis before arguments, where none follows; otherwise it is the first one's
 abbrev pub opening : NodeShapes → ℕ
@@ -155,8 +155,8 @@ abbrev mutual
       let begun = steps (star_tokens stars) s in
       let l = type_lengths [] ls (step begun) in
       let t = arrays_of l.counts (pointed stars k) in
-      let free = is_free (field_type (field_text x) fields) in
-      let n = type_fields p k rest (with_field free (field_text x) t fields) (step (field_state begun.at (name_pos p x) free t l.state)) in
+      let free = is_free (field_type (text_of x) fields) in
+      let n = type_fields p k rest (with_field free (text_of x) t fields) (step (field_state begun.at (name_pos p x) free t l.state)) in
       record { names = more_declarators (declarator stars x (arrays l.lengths) i) n.names; fields = n.fields; state = n.state }
   type_fields p k (more_declarators (declarator stars x (function ps) i) rest) fields s =
       let begun = steps (star_tokens stars) s in

@@ -8,7 +8,6 @@ use Rattle.c_syntax.specs.declared.tree.Named.{Named}
 use Rattle.c_syntax.specs.declared.tree.ProbeMark.{ProbeMark}
 use Rattle.c_syntax.specs.declared.tree.Star.{Star}
 use Rattle.c_syntax.specs.Shape.{TypeOf, int, SpecShapes, DeclaratorShape, declarator, arrays, function, ParamsShape, MaybeInit, CompoundShape, ExternalShape, defined, declared, UnitShape}
-use Rattle.c_scopes.specs.Rows.{Scoped}
 use Rattle.c_scopes.specs.Scoping.{find_here}
 use Rattle.c_tree.specs.Tables.{FunctionShape, TablesShape, with_definition}
 use Rattle.c_tree.specs.declared.meaning.Complaint.{Complaint}
@@ -16,7 +15,7 @@ use Rattle.c_tree.specs.declared.meaning.Entity.{Entity}
 use Rattle.c_tree.specs.declared.meaning.Entity.TheVariants as entity
 use Rattle.c_tree.specs.declared.meaning.Builtin.TheVariants.{GetChar, PutChar, Exit}
 use Rattle.c_tree.specs.Builtins.{builtin_name}
-use Rattle.c_tree.specs.State.{Seen, State, step, steps, complain, demand, is_function}
+use Rattle.c_tree.specs.State.{State, first_place, step, steps, complain, demand, is_function}
 use Rattle.c_tree.specs.Rulings.{kind_at, rule, by}
 use Rattle.c_kinds.specs.Verdicts.{result_type}
 use Rattle.c_values.specs.Probes.{digest_of}
@@ -63,9 +62,6 @@ type_definition specs f k marks c =
     let t = type_compound (record { loop = false; breakable = false; result = k }) c (type_marks marks (begun_function f f.state)) in
     record { external = defined specs f.name marks t.compound; state = ended_function t.state }
 
-abbrev pub first_place : Pos
-first_place = record { line = 1; col = 1 }
-
 -- a definition of anything but a function stands in no unit
 abbrev pub type_external : ExternalShape → State → TypedExternal
 type_external (declared d) s =
@@ -91,9 +87,6 @@ type_externals (e ∷ rest) s =
     record { externals = t.external ∷ r.externals; state = r.state }
 
 -- ---- units
-
-abbrev pub no_scope : Scoped Entity
-no_scope = record { outer = []; top = [] }
 
 -- before the first token
 abbrev pub start : Option (List Bool) → State
