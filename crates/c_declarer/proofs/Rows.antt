@@ -18,7 +18,7 @@ flag_set zero (r ∷ rows) = refl
 flag_set (suc i) (r ∷ rows) = ap (λ s. r ∷ s) (flag_set i rows)
 
 -- there is no such row
-none_changed : {R : Type 0} (f : R → R) (i : ℕ) (rows : List R) → length rows ≤ i → changed_at f i rows ≡ rows
+pub none_changed : {R : Type 0} (f : R → R) (i : ℕ) (rows : List R) → length rows ≤ i → changed_at f i rows ≡ rows
 none_changed f i [] h = refl
 none_changed f zero (r ∷ rows) h = absurd (omega (arith, h))
 none_changed f (suc i) (r ∷ rows) h = ap (λ s. r ∷ s) (none_changed f i rows (omega (arith, h)))

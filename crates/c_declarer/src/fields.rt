@@ -1,27 +1,15 @@
 // The fields of a member list (C89, 3.5.2.1).
 
-ghost use Rattle.std.specs.Prelude.{◌≡◌, map, OnOk, IfOk};
+ghost use Rattle.std.specs.Prelude.{◌≡◌, OnOk};
 ghost use Rattle.c_kinds.specs.Kinds.{type_in};
-ghost use Rattle.c_tree.specs.State.{field_type};
-ghost use Rattle.c_tree.specs.Tables.{field_shape};
-ghost use Rattle.c_tree.specs.Parts.{is_free, text_of, name_pos, with_field, field_state};
+ghost use Rattle.c_tree.specs.Parts.{text_of, name_pos, field_state};
 ghost use Rattle.c_checker.specs.CheckerView.{state_of};
 
 use atac_base::place::{NoMemory, Pos};
 use c_checker::checker::Checker;
-use c_checker::rows::field_kind;
 use c_kinds::extent::Measured;
 use c_kinds::layout::measured;
-use c_syntax::text::Text;
 use c_syntax::tree::{CType, Named};
-use c_tree::tables::FieldRow;
-
-/// Whether no field has that name.
-pub fn is_free(fields: &[FieldRow], name: &[u8]) -> bool
-    ensures { result ≡ is_free (field_type name.now (map field_shape fields.now)) }
-{
-    field_kind(fields, name).is_none()
-}
 
 /// The name of a declarator, which is empty where there is none.
 pub fn text_of(name: &Option<Named>) -> &[u8]
@@ -61,23 +49,5 @@ pub fn field_state(
             Measured::Incomplete => checker.complain(39, token, pos),
             Measured::TooLarge => checker.complain(42, token, pos),
         },
-    }
-}
-
-/// The field stands behind the others, where its name is free and it has a type.
-pub fn add_field(
-    fields: &mut Vec<FieldRow>,
-    free: bool,
-    name: Text,
-    kind: Option<CType>,
-) -> Result<(), NoMemory>
-    ensures { OnOk result (map field_shape fields.new.items ≡ with_field free name (type_in kind) (map field_shape fields.old.items)) }
-{
-    match (free, kind) {
-        (true, Some(kind)) => match fields.push(FieldRow { name, kind }) {
-            Ok(()) => Ok(()),
-            Err(_) => Err(NoMemory),
-        },
-        _ => Ok(()),
     }
 }

@@ -1,0 +1,4 @@
+pub mod GivenView
+pub mod Steps
+pub mod Rows
+pub mod Entities

@@ -1,0 +1,4 @@
+pub mod Braces
+pub mod Fronts
+pub mod SlotsView
+pub mod ValueView

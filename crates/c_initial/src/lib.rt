@@ -1,0 +1,7 @@
+//! Initialisers (C89, 3.5.7).
+#![tactic(auto)]
+
+pub mod initialisers;
+pub mod lengths;
+mod slots;
+mod values;

@@ -1,0 +1,10 @@
+pub mod Among
+pub mod Compounds
+pub mod Definitions
+pub mod Forms
+pub mod Labelled
+pub mod Listed
+pub mod Rows
+pub mod Declared
+pub mod Twice
+pub mod Weights
