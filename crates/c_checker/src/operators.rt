@@ -264,7 +264,7 @@ impl Checker {
         ensures typing { IfOk result (λ t. typing_of t ≡ (typed_assign token op_pos first pos op (sort_of left) (sort_of right) (state_of self.old)).typing) }
         ensures state { OnOk result (state_of self.new ≡ (typed_assign token op_pos first pos op (sort_of left) (sort_of right) (state_of self.old)).state) }
     {
-        let kind = self.rule(left.changeable(), first, pos)?;
+        let kind = self.rule(left.left_side(&right), first, pos)?;
         match op {
             None => {
                 let ruling = by(33, storing::fits(kind, right.operand()));

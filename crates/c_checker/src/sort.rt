@@ -3,6 +3,7 @@
 ghost use Rattle.std.specs.Prelude.{◌≡◌, None, IfOk};
 ghost use Rattle.c_kinds.specs.Kinds.{type_in};
 ghost use Rattle.c_syntax.specs.View.{type_of, note_shape};
+ghost use Rattle.c_tree.specs.Operators.{left_side};
 ghost use Rattle.c_tree.specs.Sorts.{no_sort, a_value, a_place, plainly, naming, valuing, note_of, value_note, cleared, null, changeable};
 ghost use Rattle.c_checker.specs.RulingView.{ruled_of};
 ghost use Rattle.c_checker.specs.SortView.{sort_of, typing_of};
@@ -85,6 +86,16 @@ impl Sort {
         ensures { ruled_of result ≡ changeable (sort_of self) }
     {
         settled_if(self.place, 32, self.kind)
+    }
+
+    /// The left side of an assignment is a place; nothing is said of it where a complaint stands inside the right one.
+    pub fn left_side(self, right: &Sort) -> Ruling
+        ensures { ruled_of result ≡ left_side (sort_of self) (sort_of right.now) }
+    {
+        match right.kind {
+            None => Ruling::Unsettled,
+            Some(_) => self.changeable(),
+        }
     }
 
     /// It, as an operand.

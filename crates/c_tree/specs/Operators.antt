@@ -206,14 +206,18 @@ typed_and token o a b s = logical token o (constants.both a.constant b.constant)
 abbrev pub typed_or : ℕ → Pos → Sort → Sort → State → Outcome
 typed_or token o a b s = logical token o (constants.either a.constant b.constant) a b s
 
+-- the left side is a place; nothing is said of it where a complaint stands inside the right one
+abbrev pub left_side : Sort → Sort → Ruled
+left_side a b = of_kind b.kind (λ t. changeable a)
+
 abbrev pub assigned_rule : Option BinaryOp → List Measure → Sort → Sort → Ruled
-assigned_rule None rooms a b = by 33 (fits_type (kind_at (changeable a)) b.kind (null b))
-assigned_rule (Some u) rooms a b = then_rule (by 33 (compound_type u (kind_at (changeable a)) b.kind)) (moved rooms)
+assigned_rule None rooms a b = by 33 (fits_type (kind_at (left_side a b)) b.kind (null b))
+assigned_rule (Some u) rooms a b = then_rule (by 33 (compound_type u (kind_at (left_side a b)) b.kind)) (moved rooms)
 
 -- the left side begins at the second of the tokens, at that place
 abbrev pub typed_assign : ℕ → Pos → ℕ → Pos → Option BinaryOp → Sort → Sort → State → Outcome
 typed_assign token o first p u a b s =
-    comes_to (plainly (a_value (kind_at (assigned_rule u s.rooms a b)) No)) (rule (assigned_rule u s.rooms a b) token o (rule (changeable a) first p s))
+    comes_to (plainly (a_value (kind_at (assigned_rule u s.rooms a b)) No)) (rule (assigned_rule u s.rooms a b) token o (rule (left_side a b) first p s))
 
 abbrev pub typed_comma : Sort → Sort → State → Outcome
 typed_comma a b s = comes_to (plainly (a_value (kind_at (comma_kind a.kind b.kind)) No)) s
