@@ -1,5 +1,5 @@
 -- A compound statement whose parts were typed in place.
-use Rattle.std.proofs.Common.{◌≡◌, ◌+◌, None, refl, ap, ◌∙◌}
+use Rattle.std.proofs.Common.{◌≡◌, ◌+◌, None, refl, add-one, one-add, ap, ◌∙◌}
 use Rattle.std.specs.declared.vec.Vec.{Vec}
 use Rattle.std.specs.declared.alloc.Global.{Global}
 use Rattle.c_syntax.specs.declared.tree.Decl.{Decl}
@@ -20,8 +20,8 @@ half b ds = roll-Compound record { pos = (out-Compound b).pos; decls = ds; items
 half_items : (b : Compound) (ds : Vec Decl Global) → item_list (out-Compound (half b ds)).items.items ≡ item_list (out-Compound b).items.items
 half_items b ds = rw (out-roll-Compound record { pos = (out-Compound b).pos; decls = ds; items = (out-Compound b).items }) refl
 
-pub half_weight : (b : Compound) (ds : Vec Decl Global) → compound_weight (compound_shape b) ≡ 1 + items_weight (item_list (out-Compound (half b ds)).items.items)
-half_weight b ds = rw (compound_open b, half_items b ds) refl
+pub half_weight : (b : Compound) (ds : Vec Decl Global) → items_weight (item_list (out-Compound (half b ds)).items.items) + 1 ≡ compound_weight (compound_shape b)
+half_weight b ds = rw (compound_open b, half_items b ds, add-one, one-add) refl
 
 module _ (c : Surroundings) (b : Compound) (ds : Vec Decl Global) (items : Vec Item Global) (s r t u : State) (g : r ≡ step s)
     (d : decl_list ds.items ≡ (type_decls (decl_list (out-Compound b).decls.items) r).decls)

@@ -11,7 +11,7 @@ use Rattle.c_tree.specs.Stating.{Surroundings, Labels, TypedItems, TypedLabels, 
 use Rattle.c_types.specs.LabelsView.{BothAlike, LabelsAlike}
 use Rattle.c_types.specs.Stated.{type_item}
 use Rattle.c_types.proofs.Labelled.{labels_alike}
-use Rattle.c_types.proofs.Weights.{stmt_weight, items_weight}
+use Rattle.c_types.proofs.Weights.{items_weight}
 
 -- ---- alike labels lead to the same statements
 
@@ -72,10 +72,7 @@ module _ (ls : List Item) (i : ℕ) (old new : Item) (h : i < length ls) where
       (sym (items_cons c o (map label_shape old.labels.items) (stmt_shape old.stmt) (item_list (drop (i + 1) ls)) s) ∙ ap (λ x. type_items c o x s) (sym (rest_cons w))))
       ∙ r
 
-  -- the statement at the index is one of those that are left
-  pub item_weight : old ≡ get_or ls i old → (n : ℕ) → items_weight (item_list (drop i ls)) ≤ n → stmt_weight (stmt_shape old.stmt) < n
-  item_weight e n m = let w = ap items_weight (rest_cons e) in omega arith
-
+  -- those behind it are some of those that are left
   pub rest_weight : old ≡ get_or ls i old → (n : ℕ) → items_weight (item_list (drop i ls)) ≤ n → items_weight (item_list (drop (i + 1) (set ls i new))) ≤ n
   rest_weight e n m = let w = ap items_weight (rest_cons e) in rw rest_set (omega arith)
 

@@ -1,6 +1,6 @@
 // Expressions in statements, and the block probes before a statement (C89, 3.6).
 
-ghost use Rattle.std.specs.Prelude.{◌≡◌, Some, OnOk, IfOk};
+ghost use Rattle.std.specs.Prelude.{◌≡◌, OnOk, IfOk};
 ghost use Rattle.c_kinds.specs.Kinds.{type_in};
 ghost use Rattle.c_kinds.specs.Verdicts.{truth_type};
 ghost use Rattle.c_syntax.specs.View.{node_shape, maybe_node};

@@ -3,7 +3,6 @@
 ghost use Rattle.std.specs.Prelude.{◌≡◌, [], map, not, false, OnOk, IfOk};
 ghost use Rattle.c_syntax.specs.Shape.{case};
 ghost use Rattle.c_syntax.specs.View.{node_shape, label_shape};
-ghost use Rattle.c_tree.specs.Rulings.{kind_at};
 ghost use Rattle.c_tree.specs.Operators.{wrapped};
 ghost use Rattle.c_tree.specs.Stating.{kind_of_switch, comes_twice, as_kind, with_value, case_state, case_labels, default_state, default_labels, type_labels};
 ghost use Rattle.c_checker.specs.CheckerView.{state_of};

@@ -1,0 +1,66 @@
+ghost use Rattle.std.specs.Prelude.{◌≤◌, length, IfOk, IfErr, MatchResult};
+ghost use Rattle.c_syntax.specs.View.{unit_shape};
+ghost use Rattle.c_front.specs.Front.{AreTokens, IsUnit, GivesProgram, IsRefused, IsOne};
+
+use atac_base::place::Pos;
+use c_lex::{LexRefusal, TextKind, lex};
+use c_parse::refusal::ParseRefusal;
+use c_parse::unit::parse;
+use c_syntax::token::Token;
+use c_syntax::tree::Unit;
+use c_tree::program::Program;
+use c_types::check::{TypeRefusal, check};
+use std::alloc::Global;
+
+/// Why a text is no program: the number and the place of its refusal; or there is no memory. The numbers 1 to 9 are
+/// those of `c_lex`, 20 is a syntax error, and those from 30 on are complaints of `c_types`.
+#[derive(Clone, Copy, Debug, PartialEq, Eq)]
+pub enum FrontRefusal {
+    At(u8, Pos),
+    NoMemory,
+}
+
+// The tokens of a text.
+fn tokens_of(alloc: Global, text: &[u8]) -> Result<Vec<Token>, FrontRefusal>
+    requires { length text.now ≤ 67108864 }
+    ensures tokens { IfOk result (λ v. AreTokens text.now v.items) }
+    ensures few { IfOk result (λ v. length v.items ≤ 100000) }
+    ensures refused { IfErr result (λ e. IsRefused text.now e) }
+{
+    match lex(alloc, text, TextKind::Plain) {
+        Ok(tokens) => Ok(tokens),
+        Err(LexRefusal::At(number, pos)) => Err(FrontRefusal::At(number, pos)),
+        Err(LexRefusal::NoMemory) => Err(FrontRefusal::NoMemory),
+    }
+}
+
+// The unit of a text.
+fn unit_of(alloc: Global, text: &[u8]) -> Result<Unit, FrontRefusal>
+    requires { length text.now ≤ 67108864 }
+    ensures unit { IfOk result (λ u. IsUnit text.now (unit_shape u)) }
+    ensures refused { IfErr result (λ e. IsRefused text.now e) }
+{
+    let tokens = tokens_of(alloc, text)?;
+    match parse(alloc, tokens.as_slice()) {
+        Ok(unit) => Ok(unit),
+        Err(ParseRefusal::Syntax(pos)) => Err(FrontRefusal::At(20, pos)),
+        Err(ParseRefusal::NoMemory) => Err(FrontRefusal::NoMemory),
+    }
+}
+
+/// The program that a text of at most 67,108,864 bytes is: its tokens (C89, 2.1.1.2, 3.1 and 3.8), their unit (3.7),
+/// and that unit with its types (3.3); or its first refusal, the lexer's before the parser's and the parser's before
+/// the checker's, with its place. The same text is never read in two ways.
+#[tactic(auto, using(crate::proofs::One::is_one))]
+pub fn read(alloc: Global, text: &[u8]) -> Result<Program, FrontRefusal>
+    requires { length text.now ≤ 67108864 }
+    ensures read { MatchResult result (GivesProgram text.now) (IsRefused text.now) }
+    ensures one { IsOne text.now }
+{
+    let unit = unit_of(alloc, text)?;
+    match check(alloc, unit) {
+        Ok(program) => Ok(program),
+        Err(TypeRefusal::At(number, pos)) => Err(FrontRefusal::At(number, pos)),
+        Err(TypeRefusal::NoMemory) => Err(FrontRefusal::NoMemory),
+    }
+}

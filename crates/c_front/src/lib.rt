@@ -1,0 +1,5 @@
+//! The front end: a text's tokens, its unit and its program, or its refusal; and the names of refusals.
+#![tactic(auto)]
+
+pub mod front;
+pub mod names;

@@ -1,0 +1,16 @@
+pub mod Items
+pub mod Places
+pub mod Tests
+pub mod Walked
+pub mod Walking
+pub mod Stating
+pub mod Units
+pub mod ItemView
+pub mod WalkerView
+pub mod Marked
+pub mod Names
+pub mod Limits
+pub mod Lists
+pub mod Few
+pub mod ListsView
+pub mod Refused

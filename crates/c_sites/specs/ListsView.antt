@@ -1,0 +1,26 @@
+-- The lists, wherever their parts lie in memory.
+use Rattle.std.specs.Prelude.{map}
+use Rattle.c_sites.specs.declared.lists.Decision as code_decision
+use Rattle.c_sites.specs.declared.lists.DefSite as code_def
+use Rattle.c_sites.specs.declared.lists.UseSite as code_use
+use Rattle.c_sites.specs.declared.lists.Lists as code_lists
+use Rattle.c_sites.specs.ItemView.{place_shape}
+use Rattle.c_sites.specs.Items.{Decision, DefSite, UseSite}
+use Rattle.c_sites.specs.Lists.{Lists}
+
+abbrev pub decision_shape : code_decision.Decision → Decision
+decision_shape d = record { pos = d.pos; labels = d.labels }
+
+abbrev pub def_shape : code_def.DefSite → DefSite
+def_shape d = record { pos = d.pos; function = d.function; place = place_shape d.place }
+
+abbrev pub use_shape : code_use.UseSite → UseSite
+use_shape u = record { pos = u.pos; function = u.function; place = place_shape u.place; owner = u.owner }
+
+abbrev pub lists_shape : code_lists.Lists → Lists
+lists_shape l = record {
+  blocks = l.blocks.items;
+  decisions = map decision_shape l.decisions.items;
+  defs = map def_shape l.defs.items;
+  uses = map use_shape l.uses.items;
+}

@@ -1,0 +1,85 @@
+// The numbered blocks, decisions, definitions and uses of a program.
+
+ghost use Rattle.std.specs.Prelude.{◌≡◌, ◌-◌, ◌≤◌, length, slice_get, Some};
+ghost use Rattle.c_sites.specs.Few.{AreFew};
+
+use crate::lists::{Decision, DefSite, Lists, UseSite};
+use atac_base::place::Pos;
+
+/// The blocks, decisions, definitions and uses of a program: at most 16,383 of each, numbered from 1 in the order of the
+/// tree.
+#[derive(Drop)]
+pub struct Sites {
+    lists: Lists,
+    ghost few: { AreFew lists },
+}
+
+impl Sites {
+    /// The sites in these lists.
+    pub fn from_lists(lists: Lists) -> Sites
+        requires { AreFew lists }
+        ensures { result.lists ≡ lists }
+    {
+        Sites { lists }
+    }
+
+    /// How many blocks there are.
+    pub fn blocks(&self) -> u16
+        ensures { result ≡ length self.now.lists.blocks.items }
+    {
+        self.lists.blocks.len() as u16
+    }
+
+    /// The place of the block with that number.
+    pub fn block(&self, k: u16) -> Pos
+        requires { (1 ≤ k) × (k ≤ length self.now.lists.blocks.items) }
+        ensures { slice_get self.now.lists.blocks.items (k - 1) ≡ Some result }
+    {
+        self.lists.blocks[k as usize - 1]
+    }
+
+    /// How many decisions there are.
+    pub fn decisions(&self) -> u16
+        ensures { result ≡ length self.now.lists.decisions.items }
+    {
+        self.lists.decisions.len() as u16
+    }
+
+    /// The decision with that number.
+    pub fn decision(&self, k: u16) -> &Decision
+        requires { (1 ≤ k) × (k ≤ length self.now.lists.decisions.items) }
+        ensures { slice_get self.now.lists.decisions.items (k - 1) ≡ Some result.now }
+    {
+        &self.lists.decisions[k as usize - 1]
+    }
+
+    /// How many definitions there are.
+    pub fn defs(&self) -> u16
+        ensures { result ≡ length self.now.lists.defs.items }
+    {
+        self.lists.defs.len() as u16
+    }
+
+    /// The definition with that number.
+    pub fn def(&self, d: u16) -> &DefSite
+        requires { (1 ≤ d) × (d ≤ length self.now.lists.defs.items) }
+        ensures { slice_get self.now.lists.defs.items (d - 1) ≡ Some result.now }
+    {
+        &self.lists.defs[d as usize - 1]
+    }
+
+    /// How many uses there are.
+    pub fn uses(&self) -> u16
+        ensures { result ≡ length self.now.lists.uses.items }
+    {
+        self.lists.uses.len() as u16
+    }
+
+    /// The use with that number.
+    pub fn use_site(&self, u: u16) -> &UseSite
+        requires { (1 ≤ u) × (u ≤ length self.now.lists.uses.items) }
+        ensures { slice_get self.now.lists.uses.items (u - 1) ≡ Some result.now }
+    {
+        &self.lists.uses[u as usize - 1]
+    }
+}
