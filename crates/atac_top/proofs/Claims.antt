@@ -5,12 +5,14 @@ use Rattle.atac_base.specs.Outside.{ShelfState, SinkState, Said, Agrees}
 use Rattle.atac_top.specs.Words.{Command, Cover}
 use Rattle.atac_top.specs.Ends.{End, IsDone, BadWords, NotAccepted, NotHeld, TooLong, ReadFailed, WriteFailed, OutOfMemory, status_of}
 use Rattle.first_tree.specs.Shape.{UnitShape}
-use Rattle.atac_top.specs.Programs.{IsFirst, IsUnderstood, section, report}
+use Rattle.atac_top.specs.Programs.{IsFirst, IsAccepted, Refusal, by_front, not_yet, Reading, Refuses, Gives, IsUnderstood, section, report}
 use Rattle.atac_top.specs.Answers.{Answer, asked, names, text, gets, Gets, program_most, input_most}
 use Rattle.atac_top.specs.Runs.{AllAgree, IsOfGot, Understands, Breaks, Answers, Goes, Runs}
 use Rattle.atac_top.specs.Claims.{IsHeld, IsProgram, Supposes, Shows, NoFault}
 use Rattle.atac_top.specs.declared.status.Status.{Status}
 use Rattle.atac_top.specs.declared.status.Status.TheVariants.{Done, NoMemory}
+use Rattle.c_front.specs.Front as front
+use Rattle.c_front.proofs.One.{is_one}
 use Rattle.atac_top.proofs.Asked.{cover_done, cover_text}
 
 module _ (c : Option Command) (shelf shelf' : ShelfState) (out out' : SinkState) (found : List (Option (List ℕ))) (put : List ℕ) (fine : NoFault shelf shelf' out out') where
@@ -21,7 +23,7 @@ module _ (c : Option Command) (shelf shelf' : ShelfState) (out out' : SinkState)
   breaks_done IsDone h = absurd h
   breaks_done WriteFailed h = absurd h
   breaks_done BadWords h = absurd h
-  breaks_done (NotAccepted file) h = absurd h
+  breaks_done (NotAccepted file said) h = absurd h
   breaks_done (NotHeld file) h = absurd h
   breaks_done (TooLong file) h = absurd h
 
@@ -32,7 +34,7 @@ module _ (c : Option Command) (shelf shelf' : ShelfState) (out out' : SinkState)
   answers_done (ReadFailed file) h is = absurd (fine.read h.comes.0)
   answers_done WriteFailed h is = absurd (fine.put h.comes.0)
   answers_done BadWords h is = let e = h.comes.0 ∙ is in cc
-  answers_done (NotAccepted file) h is = let e = h.comes.0 ∙ is in cc
+  answers_done (NotAccepted file said) h is = let e = h.comes.0 ∙ is in cc
   answers_done (NotHeld file) h is = let e = h.comes.0 ∙ is in cc
   answers_done (TooLong file) h is = let e = h.comes.0 ∙ is in cc
 
@@ -46,16 +48,23 @@ got file most said found h agrees =
     let is : found ≡ Some h.bytes = subst (λ (s : Said). Agrees s found) h.is agrees in
     rw is (grind (arith, h.short))
 
--- a program of the first form is understood
-understood_done : (program input : List ℕ) (p i : Option (List ℕ)) (source bytes : List ℕ) (P : UnitShape) (u : Option UnitShape) → gets program program_most p ≡ Gets source → gets input input_most i ≡ Gets bytes
-    → IsFirst source P → IsUnderstood source u → (asked (Some (Cover program input)) u (p ∷ i ∷ [])).end ≡ IsDone
-understood_done program input p i source bytes P None g h first is = absurd (is P first)
-understood_done program input p i source bytes P (Some Q) g h first is = ap (λ (a : Answer). a.end) (cover_done program input p i source Q g bytes h)
+-- a program of the first form that the front end accepts isn't refused
+not_refused : (source said : List ℕ) (P : UnitShape) → IsAccepted source → IsFirst source P → Refusal source said → ⊥
+not_refused source said P a first (by_front number p read is) =
+    let e : front.refused number p ≡ front.program a.unit a.tables = (is_one source).program_alone a.unit a.tables (front.refused number p) a.read read in
+    absurd (cc)
+not_refused source said P a first (not_yet accepted none is) = none P first
 
-supposed : (command : Command) (says : List ℕ → Said) (found : List (Option (List ℕ))) (u : Option UnitShape) → AllAgree says (names (Some command)) found → Supposes command says → Understands (names (Some command)) found u → (asked (Some command) u found).end ≡ IsDone
+-- it is understood
+understood_done : (program input : List ℕ) (p i : Option (List ℕ)) (source bytes : List ℕ) (P : UnitShape) (u : Reading) → gets program program_most p ≡ Gets source → gets input input_most i ≡ Gets bytes
+    → IsAccepted source → IsFirst source P → IsUnderstood source u → (asked (Some (Cover program input)) u (p ∷ i ∷ [])).end ≡ IsDone
+understood_done program input p i source bytes P (Refuses said) g h a first is = absurd (not_refused source said P a first is)
+understood_done program input p i source bytes P (Gives Q) g h a first is = ap (λ (a : Answer). a.end) (cover_done program input p i source Q g bytes h)
+
+supposed : (command : Command) (says : List ℕ → Said) (found : List (Option (List ℕ))) (u : Reading) → AllAgree says (names (Some command)) found → Supposes command says → Understands (names (Some command)) found u → (asked (Some command) u found).end ≡ IsDone
 supposed (Cover program input) says (p ∷ i ∷ []) u agrees h is =
     let g = got program program_most _ p h.0.held agrees.0 in
-    understood_done program input p i _ _ h.0.program u g (got input input_most _ i h.1 agrees.1.0) h.0.accepted (subst (λ x. IsOfGot x u) g is)
+    understood_done program input p i _ _ h.0.program u g (got input input_most _ i h.1 agrees.1.0) h.0.accepted h.0.first (subst (λ x. IsOfGot x u) g is)
 supposed (Cover program input) says [] u agrees h is = absurd agrees
 supposed (Cover program input) says (p ∷ []) u agrees h is = absurd agrees.1
 supposed (Cover program input) says (p ∷ i ∷ j ∷ rest) u agrees h is = absurd agrees.1.1
@@ -71,32 +80,32 @@ complete_for command shelf shelf' out out' err err' status h supposes fine =
 abbrev pub OneProgram : Type 0
 OneProgram = (source : List ℕ) (P Q : UnitShape) → IsFirst source P → IsFirst source Q → Q ≡ P
 
-answer_text : OneProgram → (program input : List ℕ) (p i : Option (List ℕ)) (source bytes : List ℕ) (P : UnitShape) (u : Option UnitShape) → gets program program_most p ≡ Gets source → gets input input_most i ≡ Gets bytes
-    → IsFirst source P → IsUnderstood source u → text (asked (Some (Cover program input)) u (p ∷ i ∷ [])) ≡ section input P bytes ++ report P bytes
-answer_text one program input p i source bytes P None g h first is = absurd (is P first)
-answer_text one program input p i source bytes P (Some Q) g h first is =
-    cover_text program input p i source Q g bytes h ∙ ap (λ (R : UnitShape). section input R bytes ++ report R bytes) (one source P Q first is)
+answer_text : OneProgram → (program input : List ℕ) (p i : Option (List ℕ)) (source bytes : List ℕ) (P : UnitShape) (u : Reading) → gets program program_most p ≡ Gets source → gets input input_most i ≡ Gets bytes
+    → IsAccepted source → IsFirst source P → IsUnderstood source u → text (asked (Some (Cover program input)) u (p ∷ i ∷ [])) ≡ section input P bytes ++ report P bytes
+answer_text one program input p i source bytes P (Refuses said) g h a first is = absurd (not_refused source said P a first is)
+answer_text one program input p i source bytes P (Gives Q) g h a first is =
+    cover_text program input p i source Q g bytes h ∙ ap (λ (R : UnitShape). section input R bytes ++ report R bytes) (one source P Q first is.1)
 
-shown_text : OneProgram → (program input : List ℕ) (says : List ℕ → Said) (found : List (Option (List ℕ))) (u : Option UnitShape) → AllAgree says (names (Some (Cover program input))) found → Understands (names (Some (Cover program input))) found u
+shown_text : OneProgram → (program input : List ℕ) (says : List ℕ → Said) (found : List (Option (List ℕ))) (u : Reading) → AllAgree says (names (Some (Cover program input))) found → Understands (names (Some (Cover program input))) found u
     → (p : IsProgram (says program)) (i : IsHeld (says input) input_most) → text (asked (Some (Cover program input)) u found) ≡ section input p.program i.bytes ++ report p.program i.bytes
 shown_text one program input says (f ∷ g ∷ []) u agrees is p i =
     let got_source = got program program_most _ f p.held agrees.0 in
-    answer_text one program input f g _ _ p.program u got_source (got input input_most _ g i agrees.1.0) p.accepted (subst (λ x. IsOfGot x u) got_source is)
+    answer_text one program input f g _ _ p.program u got_source (got input input_most _ g i agrees.1.0) p.accepted p.first (subst (λ x. IsOfGot x u) got_source is)
 shown_text one program input says [] u agrees is p i = absurd agrees
 shown_text one program input says (f ∷ []) u agrees is p i = absurd agrees.1
 shown_text one program input says (f ∷ g ∷ k ∷ rest) u agrees is p i = absurd agrees.1.1
 
-done_put : (c : Option Command) (shelf shelf' : ShelfState) (out out' : SinkState) (end : End) (h : Goes c shelf shelf' out out' end) → status_of end ≡ Done → (u : Option UnitShape) × Understands (names c) h.found u × (h.put ≡ text (asked c u h.found))
+done_put : (c : Option Command) (shelf shelf' : ShelfState) (out out' : SinkState) (end : End) (h : Goes c shelf shelf' out out' end) → status_of end ≡ Done → (u : Reading) × Understands (names c) h.found u × (h.put ≡ text (asked c u h.found))
 done_put c shelf shelf' out out' IsDone h is = by_way h.comes
   where
-    by_way : Breaks shelf shelf' (names c) IsDone h.put ⊎ Answers c shelf shelf' out out' h.found IsDone h.put → (u : Option UnitShape) × Understands (names c) h.found u × (h.put ≡ text (asked c u h.found))
+    by_way : Breaks shelf shelf' (names c) IsDone h.put ⊎ Answers c shelf shelf' out out' h.found IsDone h.put → (u : Reading) × Understands (names c) h.found u × (h.put ≡ text (asked c u h.found))
     by_way (inl b) = absurd b
     by_way (inr a) = (a.understood, a.is, a.comes.1)
 done_put c shelf shelf' out out' OutOfMemory h is = absurd (cc)
 done_put c shelf shelf' out out' (ReadFailed file) h is = absurd (cc)
 done_put c shelf shelf' out out' WriteFailed h is = absurd (cc)
 done_put c shelf shelf' out out' BadWords h is = absurd (cc)
-done_put c shelf shelf' out out' (NotAccepted file) h is = absurd (cc)
+done_put c shelf shelf' out out' (NotAccepted file said) h is = absurd (cc)
 done_put c shelf shelf' out out' (NotHeld file) h is = absurd (cc)
 done_put c shelf shelf' out out' (TooLong file) h is = absurd (cc)
 

@@ -7,7 +7,7 @@ use Rattle.atac_top.specs.Words.{Command}
 use Rattle.atac_top.specs.Ends.{End, IsDone, BadWords, NotAccepted, NotHeld, TooLong, ReadFailed, WriteFailed, OutOfMemory}
 use Rattle.atac_top.specs.Answers.{Answer, asked, names, joined, text, refused, gets, Stops}
 use Rattle.atac_top.specs.Grows.{ShelfGrows, SinkGrows}
-use Rattle.first_tree.specs.Shape.{UnitShape}
+use Rattle.atac_top.specs.Programs.{Reading, Refuses}
 use Rattle.atac_top.specs.Runs.{AllAgree, StaysBut, Comes, Keeps, Understands, Breaks, Goes}
 use Rattle.atac_top.specs.Steps.{FetchStops, PutStops, Puts}
 use Rattle.atac_top.specs.Stops.{end_of, ended}
@@ -30,7 +30,7 @@ pub front_of : (before piece after front all : List ℕ) → IsFront front piece
 front_of before piece after front all h whole = (h.0 ++ after, whole ∙ rw h.1 (simp append_assoc))
 
 module _ (asked_for : Option Command) (shelf shelf' : ShelfState) (out out' : SinkState) (found : List (Option (List ℕ))) (agrees : AllAgree shelf.says (names asked_for) found)
-    (understood : Option UnitShape) (is_understood : Understands (names asked_for) found understood)
+    (understood : Reading) (is_understood : Understands (names asked_for) found understood)
     (same : shelf'.says ≡ shelf.says) (shelf_grows : ShelfGrows shelf shelf') (out_grows : SinkGrows out out') where
   goes : (e : End) (put : List ℕ) → Comes shelf shelf' out out' (names asked_for) (asked asked_for understood found) e put → Keeps (asked asked_for understood found).kept e shelf shelf' → out'.bytes ≡ append_known out.bytes put → Goes asked_for shelf shelf' out out' e
   goes e put comes keeps bytes =
@@ -42,8 +42,8 @@ module _ (asked_for : Option Command) (shelf shelf' : ShelfState) (out out' : Si
       goes _ put (inl (k, front)) (stays _ shelf shelf' same) bytes
 
   -- P isn't understood
-  pub not_accepted : (file : List ℕ) → asked asked_for understood found ≡ refused [] (NotAccepted file) → out'.bytes ≡ append_known out.bytes [] → Goes asked_for shelf shelf' out out' (NotAccepted file)
-  not_accepted file is bytes =
+  pub not_accepted : (file said : List ℕ) → asked asked_for understood found ≡ refused [] (NotAccepted file said) → out'.bytes ≡ append_known out.bytes [] → Goes asked_for shelf shelf' out out' (NotAccepted file said)
+  not_accepted file said is bytes =
       goes _ [] ((sym (ap (λ (a : Answer). a.end) is), sym (ap (λ (a : Answer). text a) is))) same bytes
 
   -- the fetch number k stops
@@ -64,7 +64,7 @@ module _ (asked_for : Option Command) (shelf shelf' : ShelfState) (out out' : Si
   fetch_stops k name most f mid put OutOfMemory h at grows is front bytes = wants_memory (k - 1) put front bytes
   fetch_stops k name most f mid put IsDone h at grows is front bytes = absurd h
   fetch_stops k name most f mid put BadWords h at grows is front bytes = absurd h
-  fetch_stops k name most f mid put (NotAccepted file) h at grows is front bytes = absurd h
+  fetch_stops k name most f mid put (NotAccepted file said) h at grows is front bytes = absurd h
   fetch_stops k name most f mid put WriteFailed h at grows is front bytes = absurd h
 
   -- a put stops, after the text `before` and a front of its piece
@@ -80,7 +80,7 @@ module _ (asked_for : Option Command) (shelf shelf' : ShelfState) (out out' : Si
       goes _ (before ++ front) (inr (inr (rose_since _ _ _ grows.wants h, is_front))) (stays _ shelf shelf' same) (rw second (rw first (known_twice out.bytes before front)))
   put_stops mid before front IsDone h is_front first second grows = absurd h
   put_stops mid before front BadWords h is_front first second grows = absurd h
-  put_stops mid before front (NotAccepted file) h is_front first second grows = absurd h
+  put_stops mid before front (NotAccepted file said) h is_front first second grows = absurd h
   put_stops mid before front (NotHeld file) h is_front first second grows = absurd h
   put_stops mid before front (TooLong file) h is_front first second grows = absurd h
   put_stops mid before front (ReadFailed file) h is_front first second grows = absurd h
@@ -116,14 +116,14 @@ module _ (asked_for : Option Command) (shelf shelf' : ShelfState) (out : SinkSta
   pub wants_at_once : Goes asked_for shelf shelf' out out OutOfMemory
   wants_at_once = breaks OutOfMemory (refl, same)
 
-  stops_at : (e : End) → Understands (names asked_for) (f ∷ others) None → asked asked_for None (f ∷ others) ≡ refused [] e → Comes shelf shelf' out out (names asked_for) (refused [] e) e [] → Keeps None e shelf shelf' → Goes asked_for shelf shelf' out out e
+  stops_at : (e : End) → Understands (names asked_for) (f ∷ others) (Refuses []) → asked asked_for (Refuses []) (f ∷ others) ≡ refused [] e → Comes shelf shelf' out out (names asked_for) (refused [] e) e [] → Keeps None e shelf shelf' → Goes asked_for shelf shelf' out out e
   stops_at e u is comes keeps =
-      record { found = f ∷ others; put = []; agrees = agrees; comes = inr (record { understood = None; is = u; comes = rw is comes; keeps = rw is keeps }); bytes = known_nothing _; shelf_grows = grows; out_grows = sink_stays _ }
+      record { found = f ∷ others; put = []; agrees = agrees; comes = inr (record { understood = Refuses []; is = u; comes = rw is comes; keeps = rw is keeps }); bytes = known_nothing _; shelf_grows = grows; out_grows = sink_stays _ }
 
   pub program_stops : (name : List ℕ) (most : ℕ) (e : End)
       → FetchStops shelf shelf' name most f e
       → slice_get (names asked_for) 0 ≡ Some name
-      → (gets name most f ≡ Stops e → Understands (names asked_for) (f ∷ others) None × (asked asked_for None (f ∷ others) ≡ refused [] e))
+      → (gets name most f ≡ Stops e → Understands (names asked_for) (f ∷ others) (Refuses []) × (asked asked_for (Refuses []) (f ∷ others) ≡ refused [] e))
       → Goes asked_for shelf shelf' out out e
   program_stops name most (NotHeld file) h at is = stops_at _ (is h).0 (is h).1 (refl, refl) same
   program_stops name most (TooLong file) h at is = stops_at _ (is h).0 (is h).1 (refl, refl) same
@@ -131,5 +131,5 @@ module _ (asked_for : Option Command) (shelf shelf' : ShelfState) (out : SinkSta
   program_stops name most OutOfMemory h at is = wants_at_once
   program_stops name most IsDone h at is = absurd h
   program_stops name most BadWords h at is = absurd h
-  program_stops name most (NotAccepted file) h at is = absurd h
+  program_stops name most (NotAccepted file said) h at is = absurd h
   program_stops name most WriteFailed h at is = absurd h

@@ -1,23 +1,40 @@
 -- What was understood of a text, by what the code answered.
 use Rattle.std.proofs.Common.{◌≡◌, sym, ◌∙◌, subst, List, [], ℕ, Option, None, Some}
-use Rattle.std.specs.Prelude.{MatchOption}
-use Rattle.atac_top.specs.declared.program.Understood as code
+use Rattle.std.specs.Prelude.{string_bytes, MatchOption}
+use Rattle.atac_base.specs.declared.place.Pos.{Pos}
+use Rattle.c_front.specs.declared.front.FrontRefusal.{FrontRefusal}
+use Rattle.c_front.specs.declared.front.FrontRefusal.TheVariants.{At}
+use Rattle.c_front.specs.Front as front
+use Rattle.atac_top.specs.declared.program.Understood.{Understood}
+use Rattle.atac_top.specs.declared.program.Reading.{Reading}
+use Rattle.atac_top.specs.declared.program.Reading.TheVariants as reading
 use Rattle.first_tree.specs.declared.token.Token.{Token}
 use Rattle.first_tree.specs.Shape.{UnitShape}
 use Rattle.first_tokens.specs.Tokens.{tokens_of}
 use Rattle.first_form.specs.Grammar.{IsProgram}
 use Rattle.first_form.proofs.Whole.{program_found, found_only}
-use Rattle.atac_top.specs.Programs.{IsUnderstood, IsFirst}
-use Rattle.atac_top.specs.Understanding.{Reads}
+use Rattle.atac_top.specs.Programs.{IsUnderstood, IsAccepted, IsFirst, Refuses}
+use Rattle.atac_top.specs.Understanding.{Reads, ReadAs}
 
-abbrev pub Answered : List ℕ → Option code.Understood → Type 0
-Answered source o = MatchOption o (IsUnderstood source None) (Reads source)
+pub read_refused : (r : Reading) (said : _) (s t : List ℕ) → r ≡ reading.Refuses said → s ≡ t → ReadAs s r → IsUnderstood t (Refuses (string_bytes said))
+read_refused r said s t e same h = subst (λ (x : List ℕ). ReadAs x (reading.Refuses said)) same (subst (ReadAs s) e h)
 
-pub understood_none : (o : Option code.Understood) (s t : List ℕ) → o ≡ None → s ≡ t → Answered s o → IsUnderstood t None
-understood_none o s t e same h = subst (λ (x : List ℕ). IsUnderstood x None) same (subst (Answered s) e h)
+pub read_given : (r : Reading) (u : Understood) (s t : List ℕ) → r ≡ reading.Gives u → s ≡ t → ReadAs s r → IsAccepted t × Reads t u
+read_given r u s t e same h = subst (λ (x : List ℕ). ReadAs x (reading.Gives u)) same (subst (ReadAs s) e h)
 
-pub understood_some : (o : Option code.Understood) (u : code.Understood) (s t : List ℕ) → o ≡ Some u → s ≡ t → Answered s o → Reads t u
-understood_some o u s t e same h = subst (λ (x : List ℕ). Reads x u) same (subst (Answered s) e h)
+-- the front end refuses the text, by this number and at this place
+pub refused_at : (source : List ℕ) (e : FrontRefusal) (n : ℕ) (p : Pos) → e ≡ At n p → front.IsRefused source e → front.IsRead source (front.refused n p)
+refused_at source e n p is h = subst (front.IsRefused source) is h
+
+-- the text is no program of the first form, or this one
+abbrev pub FirstRead : List ℕ → Option Understood → Type 0
+FirstRead source o = MatchOption o ((P : UnitShape) → IsFirst source P → ⊥) (Reads source)
+
+pub none_first : (source : List ℕ) (o : Option Understood) → o ≡ None → FirstRead source o → (P : UnitShape) → IsFirst source P → ⊥
+none_first source o e h = subst (FirstRead source) e h
+
+pub some_first : (source : List ℕ) (o : Option Understood) (u : Understood) → o ≡ Some u → FirstRead source o → Reads source u
+some_first source o u e h = subst (FirstRead source) e h
 
 -- ONE PROGRAM A TEXT
 

@@ -3,7 +3,7 @@ use Rattle.std.specs.Prelude.{ℕ, cond, leb, List, [], ◌∷◌, ◌++◌, len
 use Rattle.atac_top.specs.Words.{Command, Cover, fetched}
 use Rattle.atac_top.specs.Ends.{End, IsDone, BadWords, NotAccepted, NotHeld, TooLong}
 use Rattle.first_tree.specs.Shape.{UnitShape}
-use Rattle.atac_top.specs.Programs.{section, report}
+use Rattle.atac_top.specs.Programs.{Reading, Refuses, Gives, section, report}
 
 -- An answer: how the call ends, what it puts (whole sections, and then a rest), and what it keeps under which name.
 pub record Answer : Type 0 where
@@ -37,9 +37,9 @@ given sections (Gets bytes) go = go bytes
 given sections (Stops end) go = refused sections end
 
 -- A program that isn't understood is refused.
-abbrev pub accepted : List ℕ → Option UnitShape → (UnitShape → Answer) → Answer
-accepted file None go = refused [] (NotAccepted file)
-accepted file (Some P) go = go P
+abbrev pub accepted : List ℕ → Reading → (UnitShape → Answer) → Answer
+accepted file (Refuses said) go = refused [] (NotAccepted file said)
+accepted file (Gives P) go = go P
 
 abbrev pub program_most : ℕ
 program_most = 1048576
@@ -48,7 +48,7 @@ abbrev pub input_most : ℕ
 input_most = 16777216
 
 -- The answer to a command, by what is understood of the program's text and by the bytes under each name that it fetches, in their order.
-abbrev pub answer : Command → Option UnitShape → List (Option (List ℕ)) → Answer
+abbrev pub answer : Command → Reading → List (Option (List ℕ)) → Answer
 answer (Cover program input) understood (p ∷ i ∷ []) =
     given [] (gets program program_most p) (λ source.
     accepted program understood (λ P.
@@ -57,7 +57,7 @@ answer (Cover program input) understood (p ∷ i ∷ []) =
 answer command understood found = refused [] BadWords
 
 -- The same from the words.
-abbrev pub asked : Option Command → Option UnitShape → List (Option (List ℕ)) → Answer
+abbrev pub asked : Option Command → Reading → List (Option (List ℕ)) → Answer
 asked None understood found = refused [] BadWords
 asked (Some command) understood found = answer command understood found
 

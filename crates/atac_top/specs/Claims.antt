@@ -4,7 +4,7 @@ use Rattle.std.specs.Io.KnownBytes.{append_known}
 use Rattle.atac_base.specs.Outside.{ShelfState, SinkState, Said, Rose}
 use Rattle.atac_top.specs.Words.{Command, Cover}
 use Rattle.first_tree.specs.Shape.{UnitShape}
-use Rattle.atac_top.specs.Programs.{IsFirst, section, report}
+use Rattle.atac_top.specs.Programs.{IsFirst, IsAccepted, section, report}
 use Rattle.atac_top.specs.Answers.{program_most, input_most}
 
 -- The name is told, and held within the limit.
@@ -13,11 +13,12 @@ pub record IsHeld (said : Said) (most : ℕ) : Type 0 where
   pub is : said ≡ Some (Some bytes)
   pub short : length bytes ≤ most
 
--- The same of a program of the first form.
+-- The same of a program of the first form, which the front end accepts.
 pub record IsProgram (said : Said) : Type 0 where
   pub held : IsHeld said program_most
+  pub accepted : IsAccepted held.bytes
   pub program : UnitShape
-  pub accepted : IsFirst held.bytes program
+  pub first : IsFirst held.bytes program
 
 abbrev pub Supposes : Command → (List ℕ → Said) → Type 0
 Supposes (Cover program input) says = IsProgram (says program) × IsHeld (says input) input_most

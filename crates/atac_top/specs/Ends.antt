@@ -6,7 +6,8 @@ use Rattle.atac_top.specs.declared.status.Status.TheVariants.{Done, Usage, Refus
 pub data End : Type 0 where
   IsDone : End
   BadWords : End
-  NotAccepted : (file : List ℕ) → End
+  -- with what is said of the program: a place, a number and a name
+  NotAccepted : (file said : List ℕ) → End
   NotHeld : (file : List ℕ) → End
   TooLong : (file : List ℕ) → End
   ReadFailed : (file : List ℕ) → End
@@ -16,7 +17,7 @@ pub data End : Type 0 where
 abbrev pub status_of : End → Status
 status_of IsDone = Done
 status_of BadWords = Usage
-status_of (NotAccepted file) = Refused
+status_of (NotAccepted file said) = Refused
 status_of (NotHeld file) = Absent
 status_of (TooLong file) = Long
 status_of (ReadFailed file) = ReadFault
@@ -25,7 +26,7 @@ status_of OutOfMemory = NoMemory
 
 -- The two parts of the line between `atac: ` and the newline: a file's name, and what is said of it.
 abbrev pub file_of : End → List ℕ
-file_of (NotAccepted file) = file
+file_of (NotAccepted file said) = file
 file_of (NotHeld file) = file
 file_of (TooLong file) = file
 file_of (ReadFailed file) = file
@@ -34,7 +35,7 @@ file_of end = []
 abbrev pub said_of : End → List ℕ
 said_of IsDone = []
 said_of BadWords = codes "bad usage"
-said_of (NotAccepted file) = codes ":1:1: 29 NotYet"
+said_of (NotAccepted file said) = said
 said_of (NotHeld file) = codes ": absent"
 said_of (TooLong file) = codes ": too long"
 said_of (ReadFailed file) = codes ": read fault"

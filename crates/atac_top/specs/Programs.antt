@@ -1,5 +1,11 @@
 -- What is understood of a program's text, and the texts of its run on an input.
-use Rattle.std.specs.Prelude.{◌≡◌, ℕ, List, Option, Some, None}
+use Rattle.std.specs.Prelude.{◌≡◌, ℕ, List, ◌∷◌, ◌++◌, codes, Some}
+use Rattle.std.specs.Fmt.{decimal}
+use Rattle.atac_base.specs.declared.place.Pos.{Pos}
+use Rattle.c_syntax.specs.Shape as full
+use Rattle.c_tree.specs.Tables.{TablesShape}
+use Rattle.c_front.specs.Front as front
+use Rattle.c_front.specs.Names.{name}
 use Rattle.first_tree.specs.declared.token.Token.{Token}
 use Rattle.first_tree.specs.Shape.{UnitShape}
 use Rattle.first_tree.specs.Blocks.{blocks}
@@ -16,10 +22,29 @@ pub record IsFirst (source : List ℕ) (P : UnitShape) : Type 0 where
   pub cut : tokens_of source ≡ Some tokens
   pub program : IsProgram tokens P
 
--- What is understood of a text: the program that it is, or that it is none.
-abbrev pub IsUnderstood : List ℕ → Option UnitShape → Type 0
-IsUnderstood source None = (P : UnitShape) → IsFirst source P → ⊥
-IsUnderstood source (Some P) = IsFirst source P
+-- What is said of a program that is refused: the place, the number and its name.
+abbrev pub refusal_text : ℕ → Pos → List ℕ
+refusal_text number p = 58 ∷ decimal p.line ++ (58 ∷ decimal p.col ++ (codes ": " ++ (decimal number ++ 32 ∷ name number)))
+
+-- The front end accepts the text.
+pub record IsAccepted (source : List ℕ) : Type 0 where
+  pub unit : full.UnitShape
+  pub tables : TablesShape
+  pub read : front.IsRead source (front.program unit tables)
+
+-- Why a text is refused: the front end refuses it, or it is no program of the first form.
+pub data Refusal (source said : List ℕ) : Type 0 where
+  by_front : (number : ℕ) (p : Pos) → front.IsRead source (front.refused number p) → said ≡ refusal_text number p → Refusal source said
+  not_yet : IsAccepted source → ((P : UnitShape) → IsFirst source P → ⊥) → said ≡ refusal_text 29 (record { line = 1; col = 1 }) → Refusal source said
+
+-- What a text is read as: refused, with what is said of it; or a program.
+pub data Reading : Type 0 where
+  Refuses : (said : List ℕ) → Reading
+  Gives : (P : UnitShape) → Reading
+
+abbrev pub IsUnderstood : List ℕ → Reading → Type 0
+IsUnderstood source (Refuses said) = Refusal source said
+IsUnderstood source (Gives P) = IsAccepted source × IsFirst source P
 
 -- The most turns of a run.
 abbrev pub turn_limit : ℕ

@@ -1,5 +1,5 @@
 -- The stops of the program as ends of a call, and its commands as commands.
-use Rattle.std.specs.Prelude.{Result, Ok, Err}
+use Rattle.std.specs.Prelude.{Result, Ok, Err, string_bytes}
 use Rattle.atac_top.specs.declared.stop.Stop.{Stop}
 use Rattle.atac_top.specs.declared.stop.Stop.TheVariants as stop
 use Rattle.atac_top.specs.declared.words.Asked.{Asked}
@@ -7,7 +7,7 @@ use Rattle.atac_top.specs.Words.{Command, Cover}
 use Rattle.atac_top.specs.Ends.{End, IsDone, NotAccepted, NotHeld, TooLong, ReadFailed, WriteFailed, OutOfMemory}
 
 abbrev pub end_of : Stop → End
-end_of (stop.NotAccepted file) = NotAccepted file.now
+end_of (stop.NotAccepted file said) = NotAccepted file.now (string_bytes said)
 end_of (stop.NotHeld file) = NotHeld file.now
 end_of (stop.TooLong file) = TooLong file.now
 end_of (stop.ReadFailed file) = ReadFailed file.now

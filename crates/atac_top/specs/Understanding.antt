@@ -1,13 +1,15 @@
 -- What the code holds of a program that it understands.
-use Rattle.std.specs.Prelude.{◌≡◌, ℕ, List}
+use Rattle.std.specs.Prelude.{◌≡◌, ℕ, List, string_bytes}
 use Rattle.first_tree.specs.declared.token.Token.{Token}
 use Rattle.first_tree.specs.Shape.{UnitShape}
 use Rattle.first_tree.specs.View.{program_shape}
 use Rattle.first_tree.specs.Blocks.{blocks}
 use Rattle.first_tree.specs.Instrumented.{instr}
 use Rattle.first_form.specs.Grammar.{IsProgram}
-use Rattle.atac_top.specs.Programs.{IsFirst}
+use Rattle.atac_top.specs.Programs.{IsFirst, IsAccepted, Refuses, IsUnderstood}
 use Rattle.atac_top.specs.declared.program.Understood as code
+use Rattle.atac_top.specs.declared.program.Reading.{Reading}
+use Rattle.atac_top.specs.declared.program.Reading.TheVariants as reading
 
 -- the instrumented program, and the places of its blocks
 pub record Holds (P : UnitShape) (understood : code.Understood) : Type 0 where
@@ -21,3 +23,8 @@ pub record Reads (source : List ℕ) (understood : code.Understood) : Type 0 whe
   pub program : UnitShape
   pub first : IsFirst source program
   pub holds : Holds program understood
+
+-- what the code answers of a text
+abbrev pub ReadAs : List ℕ → Reading → Type 0
+ReadAs source (reading.Refuses said) = IsUnderstood source (Refuses (string_bytes said))
+ReadAs source (reading.Gives understood) = IsAccepted source × Reads source understood

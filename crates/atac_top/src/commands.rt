@@ -4,7 +4,7 @@ ghost use Rattle.atac_top.specs.Stops.{ended};
 ghost use Rattle.atac_top.specs.Runs.{Goes};
 
 use crate::outside::{fetch, put};
-use crate::program::{run_on, understand};
+use crate::program::{Reading, run_on, understand};
 use crate::stop::Stop;
 use atac_base::outside::{Shelf, Sink};
 use std::alloc::Global;
@@ -27,8 +27,9 @@ pub fn cover<'a, S: Shelf, W: Sink>(
         (W.state out.old) (W.state out.new) (ended result) }
 {
     let source = fetch(alloc, shelf, program, PROGRAM_MOST)?;
-    let Some(understood) = understand(alloc, source.as_slice())? else {
-        return Err(Stop::NotAccepted(program));
+    let understood = match understand(alloc, source.as_slice())? {
+        Reading::Refuses(said) => return Err(Stop::NotAccepted(program, said)),
+        Reading::Gives(understood) => understood,
     };
     let bytes = fetch(alloc, shelf, input, INPUT_MOST)?;
     let ran = run_on(alloc, &understood, input, bytes.as_slice())?;

@@ -7,9 +7,10 @@ use crate::status::Status;
 use atac_base::place::NoMemory as MemoryWanted;
 
 /// Why a command ends before it is done. A file is named by the word that was given.
-#[derive(Clone, Copy, Debug)]
+#[derive(Debug, Drop)]
 pub enum Stop<'a> {
-    NotAccepted(&'a str),
+    /// With what is said of the program: a place, a number and its name.
+    NotAccepted(&'a str, String),
     NotHeld(&'a str),
     TooLong(&'a str),
     ReadFailed(&'a str),
@@ -24,7 +25,7 @@ impl<'a> Stop<'a> {
         ensures not_usage { result ≢ Status.Usage }
     {
         match self {
-            Stop::NotAccepted(_) => Status::Refused,
+            Stop::NotAccepted(_, _) => Status::Refused,
             Stop::NotHeld(_) => Status::Absent,
             Stop::TooLong(_) => Status::Long,
             Stop::ReadFailed(_) => Status::ReadFault,

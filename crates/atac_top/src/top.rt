@@ -18,11 +18,11 @@ use atac_base::outside::{PutErr, Shelf, Sink};
 use std::alloc::Global;
 
 /// What a stop says, behind the name of its file.
-fn said_of_stop(stop: &Stop<'_>) -> &'static [u8]
+fn said_of_stop<'a>(stop: &'a Stop<'_>) -> &'a [u8]
     ensures { result.now ≡ said_of (end_of stop.now) }
 {
     match stop {
-        Stop::NotAccepted(_) => b":1:1: 29 NotYet",
+        Stop::NotAccepted(_, said) => said.as_bytes(),
         Stop::NotHeld(_) => b": absent",
         Stop::TooLong(_) => b": too long",
         Stop::ReadFailed(_) => b": read fault",
@@ -36,7 +36,7 @@ fn file_of_stop<'a>(stop: &Stop<'a>) -> &'a [u8]
     ensures { result.now ≡ file_of (end_of stop.now) }
 {
     match stop {
-        Stop::NotAccepted(file) => file.as_bytes(),
+        Stop::NotAccepted(file, _) => file.as_bytes(),
         Stop::NotHeld(file) => file.as_bytes(),
         Stop::TooLong(file) => file.as_bytes(),
         Stop::ReadFailed(file) => file.as_bytes(),

@@ -1,6 +1,7 @@
 -- The whole runs at the three ends, and completeness from the run.
-use Rattle.std.proofs.Common.{refl, inl, inr, [], None}
+use Rattle.std.proofs.Common.{refl, inl, inr, []}
 use Rattle.atac_top.specs.Ends.{IsDone, BadWords}
+use Rattle.atac_top.specs.Programs.{Refuses}
 use Rattle.atac_top.specs.Stops.{command_of, end_of}
 use Rattle.atac_top.proofs.Claims.{complete_for, shows}
 use Rattle.atac_top.proofs.Reading.{one_program}
@@ -13,7 +14,7 @@ returns-in_default-clause-runs g c =
     rw (← c.in_default.ensures) (record {
       end = BadWords;
       status_is = refl;
-      goes = record { found = []; put = []; agrees = tt; comes = inr (record { understood = None; is = tt; comes = (refl, refl); keeps = refl }); bytes = known_nothing _; shelf_grows = shelf_stays _; out_grows = sink_stays _ };
+      goes = record { found = []; put = []; agrees = tt; comes = inr (record { understood = Refuses []; is = tt; comes = (refl, refl); keeps = refl }); bytes = known_nothing _; shelf_grows = shelf_stays _; out_grows = sink_stays _ };
       tells = c.put_four.ensures;
     })
 
