@@ -24,6 +24,7 @@ state_of c = record {
   rooms = measures c.rooms.items;
   begun = c.begun.items;
   params = map type_of c.params.items;
+  listed = c.listed;
   seen = seen_of c.seen;
   quiet = c.quiet;
   file = c.file;

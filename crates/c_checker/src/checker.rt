@@ -25,7 +25,7 @@ pub struct Seen {
 
 /// What is known at a token: how many tokens stand before it; the names and tags in scope (C89, 3.1.2.1 and 3.1.2.3); the
 /// tables; for each structure its room, and whether its member list was begun; the types of the parameters of the list that
-/// is read; the numbers of probes; whether it stands inside a `sizeof`, and whether at file scope; the number of its function,
+/// is read; the names of the list behind which a body stands; the numbers of probes; whether it stands inside a `sizeof`, and whether at file scope; the number of its function,
 /// or 0; which functions count as defined, where not all do; and the complaints so far.
 #[derive(Drop)]
 pub struct Checker {
@@ -37,6 +37,7 @@ pub struct Checker {
     pub rooms: Vec<Measured>,
     pub begun: Vec<bool>,
     pub params: Vec<CType>,
+    pub listed: Names<Entity>,
     pub seen: Seen,
     pub quiet: bool,
     pub file: bool,
@@ -60,6 +61,7 @@ impl Checker {
             rooms: Vec::new(alloc),
             begun: Vec::new(alloc),
             params: Vec::new(alloc),
+            listed: Names::new(alloc),
             seen: Seen {
                 blocks: Names::new(alloc),
                 tests: Names::new(alloc),

@@ -20,16 +20,18 @@ pub fn open_scope(checker: &mut Checker) -> Result<(), NoMemory>
 pub fn close_scope(checker: &mut Checker)
     ensures { state_of checker.new ≡ closed_scope (state_of checker.old) }
 {
-    checker.names.leave();
-    checker.tags.leave();
+    drop(checker.names.leave());
+    drop(checker.tags.leave());
 }
 
-/// Closes the scope of a parameter list, but for its tags where a body follows.
+/// Closes the scope of a parameter list; where a body follows, its tags stay, and its names are kept.
 pub fn close_params(checker: &mut Checker, defining: bool)
     ensures { state_of checker.new ≡ closed_params defining (state_of checker.old) }
 {
-    checker.names.leave();
-    if !defining {
-        checker.tags.leave();
+    let names = checker.names.leave();
+    if defining {
+        checker.listed = names;
+    } else {
+        drop(checker.tags.leave());
     }
 }

@@ -2,7 +2,7 @@
 use Rattle.std.proofs.Common.{◌≡◌, ℕ, ◌+◌, ◌-◌, ◌<◌, ◌≤◌, arith, List, [], ◌∷◌, ◌++◌, Option, Some, None, refl, sym, ap, ◌∙◌, length, take, get_or, add-one, take-suc}
 use Rattle.std.specs.Option.{option_or}
 use Rattle.c_scopes.specs.Rows.{Scope}
-use Rattle.c_scopes.specs.Scoping.{named, find_outer, last_of, but_last, left}
+use Rattle.c_scopes.specs.Scoping.{named, find_outer, last_of, but_last, left, closed}
 
 module _ {T : Type 0} where
   or_assoc : (a b c : Option T) → option_or (option_or a b) c ≡ option_or a (option_or b c)
@@ -47,3 +47,8 @@ module _ {T : Type 0} where
   -- the last of the outer scopes is the innermost one again
   pub left_last : (all ss : List (Scope T)) (s t : Scope T) → all ≡ ss ++ s ∷ [] → left (record { outer = all; top = t }) ≡ record { outer = ss; top = s }
   left_last all ss s t e = rw (e, last_there ss s t, others_there ss s) refl
+
+  -- and the names of the one before go
+  pub closed_last : (all ss : List (Scope T)) (s t : Scope T) → all ≡ ss ++ s ∷ [] → t ≡ closed (record { outer = all; top = t })
+  closed_last all [] s t e = rw e refl
+  closed_last all (u ∷ ss) s t e = rw e refl

@@ -46,6 +46,14 @@ module _ {T : Type 0} where
   abbrev pub left : Scoped T → Scoped T
   left s = record { outer = but_last s.outer; top = last_of s.outer s.top }
 
+  abbrev pub closed_in : List (Scope T) → Scope T → Scope T
+  closed_in [] top = []
+  closed_in (s ∷ rest) top = top
+
+  -- the names that go then
+  abbrev pub closed : Scoped T → Scope T
+  closed s = closed_in s.outer s.top
+
   -- no scope is open but the outermost
   abbrev pub outermost : Scoped T → Bool
   outermost s = length s.outer == 0

@@ -1,7 +1,11 @@
-ghost use Rattle.std.specs.Prelude.{◌≡◌, ℕ, List, [], ◌∷◌, ◌++◌, None, OnOk, OnErr};
+ghost use Rattle.std.specs.Prelude.{◌≡◌, ℕ, List, Vec, [], ◌∷◌, ◌++◌, None, OnOk, OnErr};
+ghost use Rattle.std.specs.Global.{Global};
+ghost use Rattle.std.specs.Map.Iter.{ShowsInOrder, deref_pair};
+ghost use Rattle.c_scopes.specs.Rows.{rows_of};
 ghost use Rattle.c_scopes.specs.Scoping.{named};
 
 use atac_base::place::NoMemory;
+use indexmap::map::Iter;
 use indexmap::IndexMap;
 use std::alloc::Global;
 use std::marker::Model;
@@ -40,6 +44,14 @@ impl<T: Copy> Names<T> {
         ensures { result ≡ named name.now self.now }
     {
         self.rows.get(name).copied()
+    }
+
+    /// The names and what they stand for, in order.
+    pub fn rows(&self) -> Iter<'_, Vec<u8>, T>
+        ensures names { rows_of result ≡ self.now }
+        ensures runs { ShowsInOrder (deref_pair {K = Vec ℕ Global} {X = T}) }
+    {
+        self.rows.iter()
     }
 
     /// Declares a name that isn't there, behind the others.

@@ -1,5 +1,5 @@
 ghost use Rattle.std.specs.Prelude.{◌≡◌, [], None, OnOk, OnErr};
-ghost use Rattle.c_scopes.specs.Scoping.{find, find_here, find_outer, declared, entered, left, outermost};
+ghost use Rattle.c_scopes.specs.Scoping.{find, find_here, find_outer, declared, entered, left, closed, outermost};
 
 use crate::names::Names;
 use atac_base::place::NoMemory;
@@ -78,14 +78,18 @@ impl<T: Copy> Scopes<T> {
         }
     }
 
-    /// Closes the innermost scope, with all its names; the outermost one stays.
-    #[tactic(auto, using(crate::proofs::Looking::left_last))]
-    pub fn leave(&mut self)
-        ensures { self.new ≡ left self.old }
+    /// Closes the innermost scope, and answers its names; the outermost one stays, and no name is answered.
+    #[tactic(auto, using(crate::proofs::Looking::left_last, crate::proofs::Looking::closed_last))]
+    pub fn leave(&mut self) -> Names<T>
+        ensures names { result ≡ closed self.old }
+        ensures scopes { self.new ≡ left self.old }
     {
+        let mut names = Names::new(self.alloc);
         if let Some(top) = self.outer.pop() {
+            names = mem::replace(&mut self.top, names);
             self.top = top;
         }
+        names
     }
 
     /// Whether no scope is open but the outermost.

@@ -9,7 +9,8 @@ use Rattle.c_syntax.specs.declared.tree.Star.{Star}
 use Rattle.c_syntax.specs.Shape.{TypeOf, pointer, def, SpecShapes, no_specs, DeclShape, decl, DeclShapes, no_decls, more_decls, DeclaratorShape, declarator, DeclaratorShapes, no_declarators, more_declarators, DeclFormShape, arrays, function, ParamsShape, empty, void, params, LengthShapes, MaybeInit, no_init, one_init}
 use Rattle.c_kinds.specs.Layouts.{Measure}
 use Rattle.c_kinds.specs.Verdicts.{parameter_type, result_type}
-use Rattle.c_scopes.specs.Scoping.{find_here, declared, entered, left}
+use Rattle.c_scopes.specs.Rows.{Scope, Scoped}
+use Rattle.c_scopes.specs.Scoping.{find_here, declared, entered, left, closed}
 use Rattle.c_tree.specs.Tables.{FunctionShape, VariableShape}
 use Rattle.c_tree.specs.declared.meaning.Entity.{Entity}
 use Rattle.c_tree.specs.declared.meaning.Entity.TheVariants as entity
@@ -289,10 +290,19 @@ pub record TypedFunction : Type 0 where
   pub given : List (Text × Option TypeOf)
   pub state : State
 
--- inside its parentheses a scope of its own is open, which is closed but for its tags where a body follows
+-- inside its parentheses a scope of its own is open, which is closed but for its tags where a body follows; its names are kept for that
 abbrev pub closed_params : Bool → State → State
-closed_params true s = record s { names = left s.names }
+closed_params true s = record s { names = left s.names; listed = closed s.names }
 closed_params false s = closed_scope s
+
+-- a name of the parameter list stands for the same in the body, if that is a constant
+abbrev pub declared_again : Text → Entity → Option Entity → Scoped Entity → Scoped Entity
+declared_again x (entity.Constant v) None s = declared x (entity.Constant v) s
+declared_again x e o s = s
+
+abbrev pub with_constants : Scope Entity → Scoped Entity → Scoped Entity
+with_constants [] s = s
+with_constants ((x, e) ∷ rest) s = with_constants rest (declared_again x e (find_here x s) s)
 
 abbrev pub type_function : Bool → Option TypeOf → List Star → Option Named → ParamsShape → MaybeInit → State → TypedFunction
 type_function defining k stars x ps i s =

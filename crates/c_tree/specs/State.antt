@@ -32,6 +32,8 @@ pub record State : Type 0 where
   pub begun : List Bool
   -- the types of the parameters of the list that is read
   pub params : List TypeOf
+  -- the names of the parameter list behind which a body stands
+  pub listed : Scope Entity
   pub seen : Seen
   -- inside a sizeof, where a string is no object
   pub quiet : Bool

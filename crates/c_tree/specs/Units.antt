@@ -8,7 +8,6 @@ use Rattle.c_syntax.specs.declared.tree.Named.{Named}
 use Rattle.c_syntax.specs.declared.tree.ProbeMark.{ProbeMark}
 use Rattle.c_syntax.specs.declared.tree.Star.{Star}
 use Rattle.c_syntax.specs.Shape.{TypeOf, int, SpecShapes, DeclaratorShape, declarator, arrays, function, ParamsShape, MaybeInit, CompoundShape, ExternalShape, defined, declared, UnitShape}
-use Rattle.c_scopes.specs.Scoping.{find_here}
 use Rattle.c_tree.specs.Tables.{FunctionShape, TablesShape, with_definition}
 use Rattle.c_tree.specs.declared.meaning.Complaint.{Complaint}
 use Rattle.c_tree.specs.declared.meaning.Entity.{Entity}
@@ -21,8 +20,8 @@ use Rattle.c_kinds.specs.Verdicts.{result_type}
 use Rattle.c_values.specs.Probes.{digest_of}
 use Rattle.c_tree.specs.Parts.{unspelled, spelled_rule, pointed, with_name}
 use Rattle.c_tree.specs.Typing.{type_specs}
-use Rattle.c_tree.specs.Declaring.{next_variable, with_variable, TypedFunction, type_function, type_decl, closed_scope}
-use Rattle.c_scopes.specs.Scoping.{entered}
+use Rattle.c_tree.specs.Declaring.{next_variable, with_variable, TypedFunction, type_function, type_decl, closed_scope, with_constants}
+use Rattle.c_scopes.specs.Scoping.{find_here, entered}
 use Rattle.c_tree.specs.Stating.{Surroundings, type_marks, type_compound}
 
 -- ---- functions with bodies
@@ -43,7 +42,7 @@ numbers_from n (x ∷ rest) = n ∷ numbers_from (n + 1) rest
 -- the function has a body from here on
 abbrev pub begun_function : TypedFunction → State → State
 begun_function f s = with_variables f.given (record s {
-  names = entered s.names;
+  names = with_constants s.listed (entered s.names);
   tables = with_definition f.number (numbers_from (next_variable s) f.given) s.tables;
   function = f.number;
   file = false;
@@ -98,6 +97,7 @@ start known = record {
   rooms = [];
   begun = [];
   params = [];
+  listed = [];
   seen = record { blocks = []; tests = []; uses = []; defs = [] };
   quiet = false;
   file = true;

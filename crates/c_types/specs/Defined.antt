@@ -9,14 +9,14 @@ use Rattle.c_tree.specs.State.{State, first_place, demand}
 use Rattle.c_tree.specs.Rulings.{kind_at, rule}
 use Rattle.c_tree.specs.Parts.{TypedSpecs, unspelled, spelled_rule}
 use Rattle.c_tree.specs.Typing.{type_specs}
-use Rattle.c_tree.specs.Declaring.{next_variable}
+use Rattle.c_tree.specs.Declaring.{next_variable, with_constants}
 use Rattle.c_tree.specs.Stating.{TypedCompound, type_marks, type_compound}
 use Rattle.c_tree.specs.Units.{with_variables, numbers_from, TypedUnit, any_main, type_externals, type_line}
 
 -- the function with that number, and with these parameters, has a body from here on
 abbrev pub begun : ℕ → List (Text × Option TypeOf) → State → State
 begun n given s = with_variables given (record s {
-  names = entered s.names;
+  names = with_constants s.listed (entered s.names);
   tables = with_definition n (numbers_from (next_variable s) given) s.tables;
   function = n;
   file = false;

@@ -5,6 +5,7 @@ ghost use Rattle.c_kinds.specs.Kinds.{type_in};
 ghost use Rattle.c_scopes.specs.Scoping.{find_here};
 ghost use Rattle.c_syntax.specs.View.{compound_shape};
 ghost use Rattle.c_tree.specs.Tables.{tables_shape, with_definition};
+ghost use Rattle.c_tree.specs.Declaring.{declared_again, with_constants};
 ghost use Rattle.c_tree.specs.Units.{variable_of, with_variables, numbers_from, ended_function};
 ghost use Rattle.c_checker.specs.CheckerView.{state_of};
 ghost use Rattle.c_declare.specs.GivenView.{parameter_of};
@@ -19,7 +20,10 @@ use c_checker::sort::copied;
 use c_declare::functions::{Declared, Parameter};
 use c_declare::scopes::close_scope;
 use c_declare::variables::add_variable;
+use c_scopes::names::Names;
+use c_scopes::scopes::Scopes;
 use c_syntax::tree::{CType, Compound, ProbeMark};
+use c_tree::meaning::Entity;
 use c_tree::tables::{NumberList, Tables};
 use std::alloc::Global;
 
@@ -42,6 +46,26 @@ fn declare_all(checker: &mut Checker, given: &[Parameter]) -> Result<(), NoMemor
 {
     for parameter in given {
         declare_given(checker, parameter)?;
+    }
+    Ok(())
+}
+
+// A name of the parameter list stands for the same in the body, if that is a constant and the name is new there.
+fn declare_again(names: &mut Scopes<Entity>, name: &[u8], entity: Entity) -> Result<(), NoMemory>
+    ensures { OnOk result (names.new ≡ declared_again name.now entity (find_here name.now names.old) names.old) }
+{
+    match (entity, names.find_here(name)) {
+        (Entity::Constant(_), None) => names.declare(name, entity),
+        _ => Ok(()),
+    }
+}
+
+// The same of all names of the list.
+fn declare_constants(names: &mut Scopes<Entity>, listed: &Names<Entity>) -> Result<(), NoMemory>
+    ensures { OnOk result (names.new ≡ with_constants listed.now names.old) }
+{
+    for (name, entity) in listed.rows() {
+        declare_again(names, name, *entity)?;
     }
     Ok(())
 }
@@ -79,6 +103,7 @@ fn begin(checker: &mut Checker, declared: &Declared) -> Result<(), NoMemory>
     let before = checker.tables.variables();
     let numbers = numbers_behind(checker.alloc, before, &declared.given)?;
     checker.names.enter()?;
+    declare_constants(&mut checker.names, &checker.listed)?;
     define(&mut checker.tables, declared.number, numbers);
     checker.function = declared.number;
     checker.file = false;
