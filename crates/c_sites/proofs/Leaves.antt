@@ -5,8 +5,10 @@ use Rattle.c_syntax.specs.declared.text.Text.{Text}
 use Rattle.c_syntax.specs.Shape.{TypeOf, int, pointer, array, structure, nothing}
 use Rattle.c_tree.specs.Tables.{StructShape, FieldShape}
 use Rattle.c_tree.specs.State.{row, fields_in}
-use Rattle.c_sites.specs.Places.{element_text, field_text}
-use Rattle.c_sites.specs.Names.{field_leaves, type_leaves, leaves, element, field_counts, element_count, leaf_count}
+use Rattle.c_items.specs.Places.{element_text, field_text}
+use Rattle.c_sites.specs.Names.{field_leaves, type_leaves, leaves}
+use Rattle.c_sites.specs.Elements.{element}
+use Rattle.c_sites.specs.Counts.{field_counts, element_count, leaf_count}
 
 fields_length : (f : Text → TypeOf → List Text) (g : TypeOf → ℕ) → ((x : Text) (t : TypeOf) → length (f x t) ≡ g t) → (x : Text) (fs : List FieldShape) → length (field_leaves f x fs) ≡ field_counts g fs
 fields_length f g h x [] = refl

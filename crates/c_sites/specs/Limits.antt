@@ -3,7 +3,7 @@ use Rattle.std.specs.Prelude.{ℕ, ◌+◌, ◌-◌, ◌^◌, ◌||◌, min, Lis
 use Rattle.atac_base.specs.declared.place.Pos.{Pos}
 use Rattle.c_tree.specs.Tables.{StructShape}
 use Rattle.c_sites.specs.declared.limits.Counts.{Counts}
-use Rattle.c_sites.specs.Items.{Direct, Item, block, decision, def, used}
+use Rattle.c_items.specs.Items.{Direct, Item, block, decision, def, used}
 use Rattle.c_sites.specs.Names.{site_leaves}
 
 abbrev pub no_counts : Counts

@@ -4,18 +4,17 @@ use Rattle.c_sites.specs.declared.lists.Decision as code_decision
 use Rattle.c_sites.specs.declared.lists.DefSite as code_def
 use Rattle.c_sites.specs.declared.lists.UseSite as code_use
 use Rattle.c_sites.specs.declared.lists.Lists as code_lists
-use Rattle.c_sites.specs.ItemView.{place_shape}
-use Rattle.c_sites.specs.Items.{Decision, DefSite, UseSite}
+use Rattle.c_sites.specs.Kinds.{Decision, DefSite, UseSite}
 use Rattle.c_sites.specs.Lists.{Lists}
 
 abbrev pub decision_shape : code_decision.Decision → Decision
 decision_shape d = record { pos = d.pos; labels = d.labels }
 
 abbrev pub def_shape : code_def.DefSite → DefSite
-def_shape d = record { pos = d.pos; function = d.function; place = place_shape d.place }
+def_shape d = record { pos = d.pos; function = d.function; variable = d.variable; names = d.names }
 
 abbrev pub use_shape : code_use.UseSite → UseSite
-use_shape u = record { pos = u.pos; function = u.function; place = place_shape u.place; owner = u.owner }
+use_shape u = record { pos = u.pos; function = u.function; variable = u.variable; name = u.name; owner = u.owner }
 
 abbrev pub lists_shape : code_lists.Lists → Lists
 lists_shape l = record {

@@ -1,11 +1,11 @@
 -- The leaf names of a site: those of the integers and pointers that its place holds (C89, 3.1.2.5).
-use Rattle.std.specs.Prelude.{ℕ, zero, suc, ◌+◌, ◌++◌, List, [], ◌∷◌, length, Option, Some, None}
+use Rattle.std.specs.Prelude.{ℕ, zero, suc, ◌+◌, ◌++◌, List, [], ◌∷◌, map, length, Option, Some, None}
 use Rattle.c_syntax.specs.declared.text.Text.{Text}
 use Rattle.c_syntax.specs.Shape.{TypeOf, int, pointer, array, structure, nothing}
 use Rattle.c_tree.specs.Tables.{StructShape, FieldShape}
 use Rattle.c_tree.specs.State.{row, fields_in}
-use Rattle.c_sites.specs.Items.{Direct}
-use Rattle.c_sites.specs.Places.{element_text, field_text}
+use Rattle.c_items.specs.Items.{Direct, Item, block, decision, def, used}
+use Rattle.c_items.specs.Places.{element_text, field_text}
 
 -- of each field of a place with that name, where these are the leaf names of what has that name and type
 abbrev pub field_leaves : (Text → TypeOf → List Text) → Text → List FieldShape → List Text
@@ -32,23 +32,26 @@ abbrev pub site_leaves : List StructShape → Option Direct → List Text
 site_leaves rows None = []
 site_leaves rows (Some d) = leaves (depth_of rows) rows d.name d.kind
 
--- ---- how many they are
+-- ---- with their variables
 
-abbrev pub element : TypeOf → TypeOf
-element (array t n) = element t
-element t = t
+pub record LeafName : Type 0 where
+  pub variable : ℕ
+  pub text : Text
 
-abbrev pub field_counts : (TypeOf → ℕ) → List FieldShape → ℕ
-field_counts inner [] = 0
-field_counts inner (f ∷ fs) = inner f.kind + field_counts inner fs
+abbrev pub leaf_name : ℕ → Text → LeafName
+leaf_name v x = record { variable = v; text = x }
 
--- of a type that is no array
-abbrev pub element_count : (TypeOf → ℕ) → List StructShape → TypeOf → ℕ
-element_count inner rows (int k) = 1
-element_count inner rows (pointer t) = 1
-element_count inner rows (structure n) = field_counts inner (fields_in (row rows n))
-element_count inner rows _ = 0
+abbrev pub site_names : List StructShape → Option Direct → List LeafName
+site_names rows None = []
+site_names rows (Some d) = map (leaf_name d.variable) (site_leaves rows (Some d))
 
-abbrev pub leaf_count : ℕ → List StructShape → TypeOf → ℕ
-leaf_count zero rows t = 0
-leaf_count (suc depth) rows t = element_count (leaf_count depth rows) rows (element t)
+abbrev pub item_names : List StructShape → Item → List LeafName
+item_names rows (block p) = []
+item_names rows (decision p o) = []
+item_names rows (def p f d) = site_names rows d
+item_names rows (used p f d o) = site_names rows d
+
+-- those of the sites of a list, one site's behind the other's
+abbrev pub all_names : List StructShape → List Item → List LeafName
+all_names rows [] = []
+all_names rows (i ∷ is) = item_names rows i ++ all_names rows is

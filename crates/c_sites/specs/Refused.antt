@@ -1,17 +1,23 @@
 -- What a program has, or why it is refused.
-use Rattle.std.specs.Prelude.{◌≡◌, ℕ, Option, Some, None}
+use Rattle.std.specs.Prelude.{◌≡◌, ℕ, ◌≤◌, List, map, length, All, Option, Some, None, IsSome}
+use Rattle.std.specs.String.{string_bytes}
 use Rattle.atac_base.specs.declared.place.Pos.{Pos}
 use Rattle.c_syntax.specs.Shape.{UnitShape}
 use Rattle.c_syntax.specs.View.{unit_shape}
-use Rattle.c_tree.specs.Tables.{TablesShape, tables_shape}
+use Rattle.c_tree.specs.Tables.{TablesShape, StructShape, tables_shape}
 use Rattle.c_tree.specs.declared.program.Program.{Program}
 use Rattle.c_sites.specs.declared.numbered.Sites.{Sites}
+use Rattle.c_sites.specs.declared.lists.UseSite.{UseSite}
 use Rattle.c_sites.specs.declared.sites.SiteRefusal.{SiteRefusal}
 use Rattle.c_sites.specs.declared.sites.SiteRefusal.TheVariants.{At, NoMemory}
 use Rattle.c_sites.specs.Lists.{lists_of}
 use Rattle.c_sites.specs.ListsView.{lists_shape}
-use Rattle.c_sites.specs.Units.{items_of}
-use Rattle.c_sites.specs.Marked.{unit_mark}
+use Rattle.c_items.specs.Items.{Item}
+use Rattle.c_items.specs.Sound.{IsOwner}
+use Rattle.c_items.specs.Units.{items_of}
+use Rattle.c_sites.specs.Numbers.{names_of}
+use Rattle.c_sites.specs.Leaf.{AreApart, AreSpelled}
+use Rattle.c_marks.specs.Marked.{unit_mark}
 use Rattle.c_sites.specs.Limits.{no_counts, excess}
 
 abbrev pub at_excess : Option Pos → Option (ℕ × Pos)
@@ -29,10 +35,22 @@ refusal t u = refusal_at (unit_mark u) (excess t.structures no_counts (items_of 
 abbrev pub refusal_of : Program → Option (ℕ × Pos)
 refusal_of p = refusal (tables_shape p.tables) (unit_shape p.unit)
 
--- the lists are those of the program's items, and nothing refuses it
+-- the lists are those of these items, with the numbers of their leaf names: different names have different numbers, and each
+-- has its text at its own
+pub record AreNumbered (rows : List StructShape) (is : List Item) (s : Sites) : Type 0 where
+  pub lists : lists_shape s.lists ≡ lists_of (names_of rows is) rows is
+  pub apart : AreApart rows is
+  pub texts : AreSpelled rows is (map string_bytes s.texts.items)
+
+-- an owner is one of that many decisions, and a direct use has a leaf name
+abbrev pub IsRead : ℕ → UseSite → Type 0
+IsRead n u = IsOwner n u.owner × (IsSome u.variable → 1 ≤ u.name)
+
+-- they are those of the program, and nothing refuses it
 pub record AreSites (p : Program) (s : Sites) : Type 0 where
   pub clean : refusal_of p ≡ None
-  pub lists : lists_shape s.lists ≡ lists_of (items_of (tables_shape p.tables) (unit_shape p.unit))
+  pub reads : All (IsRead (length s.lists.decisions.items)) s.lists.uses.items
+  pub numbered : AreNumbered (tables_shape p.tables).structures (items_of (tables_shape p.tables) (unit_shape p.unit)) s
 
 abbrev pub IsRefused : Program → SiteRefusal → Type 0
 IsRefused p (At number q) = refusal_of p ≡ Some (number, q)

@@ -1,18 +1,12 @@
-//! Blocks, decisions, definitions and uses of a program.
+//! Blocks, decisions, definitions and uses of a program, numbered.
 #![tactic(auto)]
 
-pub mod around;
-pub mod items;
-pub mod labels;
 pub mod limits;
 pub mod lists;
-pub mod marked;
+pub mod names;
+pub mod naming;
 pub mod numbered;
-pub mod outcomes;
-pub mod places;
+pub mod numbers;
 pub mod sites;
-pub mod stating;
-pub mod tests;
-pub mod units;
-pub mod walker;
-pub mod walking;
+
+pub use c_marks::owners;

@@ -4,12 +4,14 @@ ghost use Rattle.std.specs.Prelude.{◌≡◌, length, map};
 ghost use Rattle.c_syntax.specs.View.{type_of};
 ghost use Rattle.c_tree.specs.State.{row, fields_in};
 ghost use Rattle.c_tree.specs.Tables.{tables_shape, field_shape};
-ghost use Rattle.c_sites.specs.ItemView.{item_shape, place_shape};
-ghost use Rattle.c_sites.specs.Names.{site_leaves, element, field_counts, leaf_count};
+ghost use Rattle.c_items.specs.ItemView.{item_shape, place_shape};
+ghost use Rattle.c_sites.specs.Names.{site_leaves};
+ghost use Rattle.c_sites.specs.Elements.{element};
+ghost use Rattle.c_sites.specs.Counts.{field_counts, leaf_count};
 ghost use Rattle.c_sites.specs.Limits.{no_counts, kept, with_names, with_one, too_many, place_of, excess};
 
-use crate::items::{Direct, Item};
 use atac_base::place::Pos;
+use c_items::items::{Direct, Item};
 use c_syntax::tree::CType;
 use c_tree::tables::{FieldRow, Tables};
 
@@ -23,8 +25,8 @@ pub struct Counts {
     pub names: u32,
 }
 
-// What an array's elements are, where these are no arrays.
-fn element(kind: &CType) -> &CType
+/// What an array's elements are, where these are no arrays; another type is its own.
+pub fn element(kind: &CType) -> &CType
     ensures { type_of result.now ≡ element (type_of kind.now) }
 {
     match kind {

@@ -1,14 +1,24 @@
 // The four kinds of items, each in a list of its own.
 
-ghost use Rattle.std.specs.Prelude.{◌≡◌, [], ◌∷◌, ◌++◌, map, OnOk, IfOk};
-ghost use Rattle.c_sites.specs.ItemView.{item_shape};
-ghost use Rattle.c_sites.specs.Lists.{lists_of, added};
-ghost use Rattle.c_sites.specs.ListsView.{lists_shape};
+ghost use Rattle.std.specs.Prelude.{◌≡◌, [], ◌∷◌, ◌++◌, map, option_map, OnOk, IfOk};
+ghost use Rattle.std.specs.List.{AllByRecursion};
+ghost use Rattle.c_tree.specs.Tables.{tables_shape};
+ghost use Rattle.c_items.specs.ItemView.{item_shape, place_shape};
+ghost use Rattle.c_sites.specs.Added.{IsAdded, IsDef, IsUse};
+ghost use Rattle.c_sites.specs.Few.{IsShort, HasShortOwner};
+ghost use Rattle.c_sites.specs.Kinds.{variable_of};
+ghost use Rattle.c_sites.specs.Lists.{lists_of};
+ghost use Rattle.c_sites.specs.ListsView.{lists_shape, def_shape, use_shape};
+ghost use Rattle.c_sites.specs.Numbers.{names_of, first_number};
 
-use crate::items::{Direct, Item};
-use crate::labels::Labels;
-use crate::outcomes::labels_of;
+use crate::names::Names;
+use crate::naming::site_numbers;
+use crate::numbers::NameList;
 use atac_base::place::{NoMemory, Pos};
+use c_items::items::{Direct, Item};
+use c_items::labels::Labels;
+use c_items::outcomes::labels_of;
+use c_tree::tables::Tables;
 use std::alloc::Global;
 
 /// A decision: the place of its expression's first token, and its outcomes.
@@ -18,22 +28,25 @@ pub struct Decision {
     pub labels: Labels,
 }
 
-/// A definition: its place, the number of the function that it stands in, or 0, and what is defined, if that is a direct
-/// place.
+/// A definition: its place, the number of the function that it stands in, or 0 at file scope, the variable that it is of,
+/// if it is direct, and the numbers of its leaf names; an indirect one has none.
 #[derive(Drop)]
 pub struct DefSite {
     pub pos: Pos,
     pub function: u32,
-    pub place: Option<Direct>,
+    pub variable: Option<u32>,
+    pub names: NameList,
 }
 
-/// A use: the same, and the number of the decision whose expression holds it, the innermost one, if there is one.
-#[derive(Drop)]
+/// A use: its place, its function, its variable, if it is direct, and the number of its leaf name, which is 0 for an indirect
+/// one; and the number of the decision whose expression holds it, the innermost one, if there is one.
+#[derive(Clone, Copy, Debug, PartialEq, Eq)]
 pub struct UseSite {
     pub pos: Pos,
     pub function: u32,
-    pub place: Option<Direct>,
-    pub owner: Option<u32>,
+    pub variable: Option<u32>,
+    pub name: u32,
+    pub owner: Option<u16>,
 }
 
 /// The blocks, decisions, definitions and uses of a program, each kind numbered from 1 in the order of its list.
@@ -48,7 +61,7 @@ pub struct Lists {
 impl Lists {
     /// No item.
     pub fn new(alloc: Global) -> Lists
-        ensures { lists_shape result ≡ lists_of [] }
+        ensures { lists_shape result ≡ lists_of [] [] [] }
     {
         Lists {
             blocks: Vec::new(alloc),
@@ -58,9 +71,16 @@ impl Lists {
         }
     }
 
-    /// One more item.
-    pub fn add(&mut self, alloc: Global, item: Item) -> Result<(), NoMemory>
-        ensures { OnOk result (lists_shape self.new ≡ added (item_shape item) (lists_shape self.old)) }
+    /// One more item, whose leaf names are among the names from now on.
+    pub fn add(
+        &mut self,
+        alloc: Global,
+        names: &mut Names,
+        tables: &Tables,
+        item: Item,
+    ) -> Result<(), NoMemory>
+        requires { HasShortOwner (item_shape item) }
+        ensures { OnOk result (IsAdded names.old names.new (tables_shape tables.now).structures (item_shape item) (lists_shape self.old) (lists_shape self.new)) }
     {
         match item {
             Item::Block(pos) => put(&mut self.blocks, pos),
@@ -69,20 +89,12 @@ impl Lists {
                 put(&mut self.decisions, Decision { pos, labels })
             }
             Item::Def(pos, function, place) => {
-                let site = DefSite {
-                    pos,
-                    function,
-                    place,
-                };
+                let site = def_site(alloc, names, tables, pos, function, place)?;
                 put(&mut self.defs, site)
             }
             Item::Used(pos, function, place, owner) => {
-                let site = UseSite {
-                    pos,
-                    function,
-                    place,
-                    owner,
-                };
+                let mut site = use_site(alloc, names, tables, pos, function, place)?;
+                site.owner = owner_number(owner);
                 put(&mut self.uses, site)
             }
         }
@@ -98,13 +110,94 @@ fn put<T: Drop>(list: &mut Vec<T>, item: T) -> Result<(), NoMemory>
     }
 }
 
-/// The items, each kind in a list of its own.
-pub fn lists_of(alloc: Global, items: Vec<Item>) -> Result<Lists, NoMemory>
-    ensures { IfOk result (λ l. lists_shape l ≡ lists_of (map item_shape items.items)) }
+fn variable_of(place: &Option<Direct>) -> Option<u32>
+    ensures { result ≡ variable_of (place_shape place.now) }
+{
+    match place {
+        None => None,
+        Some(place) => Some(place.variable),
+    }
+}
+
+fn def_site(
+    alloc: Global,
+    names: &mut Names,
+    tables: &Tables,
+    pos: Pos,
+    function: u32,
+    place: Option<Direct>,
+) -> Result<DefSite, NoMemory>
+    ensures { IfOk result (λ d. IsDef names.old names.new (tables_shape tables.now).structures pos function (place_shape place) (def_shape d)) }
+{
+    let variable = variable_of(&place);
+    let numbers = site_numbers(alloc, names, tables, place)?;
+    Ok(DefSite {
+        pos,
+        function,
+        variable,
+        names: numbers,
+    })
+}
+
+// A use outside of decisions.
+fn use_site(
+    alloc: Global,
+    names: &mut Names,
+    tables: &Tables,
+    pos: Pos,
+    function: u32,
+    place: Option<Direct>,
+) -> Result<UseSite, NoMemory>
+    ensures { IfOk result (λ u. IsUse names.old names.new (tables_shape tables.now).structures pos function (place_shape place) None (use_shape u)) }
+{
+    let variable = variable_of(&place);
+    let numbers = site_numbers(alloc, names, tables, place)?;
+    let name = first_number(&numbers);
+    Ok(UseSite {
+        pos,
+        function,
+        variable,
+        name,
+        owner: None,
+    })
+}
+
+// A decision's number, of which there are not so many.
+fn owner_number(owner: Option<u32>) -> Option<u16>
+    requires { IsShort owner }
+    ensures { result ≡ owner }
+{
+    match owner {
+        None => None,
+        Some(number) => Some(number as u16),
+    }
+}
+
+fn first_number(numbers: &NameList) -> u32
+    ensures { result ≡ first_number numbers.now }
+{
+    if numbers.len() == 0 {
+        0
+    } else {
+        numbers.get(0)
+    }
+}
+
+/// The items, each kind in a list of its own, and the different leaf names of their sites. Linear in the items and in their
+/// leaf names, each site's counted by itself and as long as it is.
+pub fn lists_of(
+    alloc: Global,
+    tables: &Tables,
+    items: Vec<Item>,
+) -> Result<(Lists, Names), NoMemory>
+    requires { AllByRecursion HasShortOwner (map item_shape items.items) }
+    ensures names { IfOk result (λ r. r.1 ≡ names_of (tables_shape tables.now).structures (map item_shape items.items)) }
+    ensures lists { IfOk result (λ r. lists_shape r.0 ≡ lists_of r.1 (tables_shape tables.now).structures (map item_shape items.items)) }
 {
     let mut lists = Lists::new(alloc);
+    let mut names = Names::new(alloc);
     for item in items {
-        lists.add(alloc, item)?;
+        lists.add(alloc, &mut names, tables, item)?;
     }
-    Ok(lists)
+    Ok((lists, names))
 }

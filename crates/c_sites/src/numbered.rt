@@ -1,26 +1,32 @@
 // The numbered blocks, decisions, definitions and uses of a program.
 
-ghost use Rattle.std.specs.Prelude.{◌≡◌, ◌-◌, ◌≤◌, length, slice_get, Some};
+ghost use Rattle.std.specs.Prelude.{◌≡◌, ◌-◌, ◌≤◌, length, map, slice_get, Some};
+ghost use Rattle.std.specs.String.{string_bytes};
 ghost use Rattle.c_sites.specs.Few.{AreFew};
+ghost use Rattle.c_sites.specs.Leaf.{IsLeaf, HaveTexts};
 
 use crate::lists::{Decision, DefSite, Lists, UseSite};
 use atac_base::place::Pos;
 
 /// The blocks, decisions, definitions and uses of a program: at most 16,383 of each, numbered from 1 in the order of the
-/// tree.
+/// tree, and the texts of the leaf names of their sites, numbered from 1 in the order of the sites.
 #[derive(Drop)]
 pub struct Sites {
     lists: Lists,
+    texts: Vec<String>,
     ghost few: { AreFew lists },
+    ghost named: { HaveTexts lists (map string_bytes texts.items) },
 }
 
 impl Sites {
-    /// The sites in these lists.
-    pub fn from_lists(lists: Lists) -> Sites
-        requires { AreFew lists }
-        ensures { result.lists ≡ lists }
+    /// The sites in these lists, with the texts of their leaf names.
+    pub fn new(lists: Lists, texts: Vec<String>) -> Sites
+        requires few { AreFew lists }
+        requires named { HaveTexts lists (map string_bytes texts.items) }
+        ensures lists { result.lists ≡ lists }
+        ensures texts { result.texts ≡ texts }
     {
-        Sites { lists }
+        Sites { lists, texts }
     }
 
     /// How many blocks there are.
@@ -81,5 +87,15 @@ impl Sites {
         ensures { slice_get self.now.lists.uses.items (u - 1) ≡ Some result.now }
     {
         &self.lists.uses[u as usize - 1]
+    }
+
+    /// The text of the leaf name with that number, which some direct site has: the variable's name with each field as `.f`
+    /// and each index as `[]`. Two direct sites with one such number have the same variable and the same text there, and no
+    /// others have.
+    pub fn leaf(&self, name: u32) -> &str
+        requires { IsLeaf self.now.lists name }
+        ensures { slice_get (map string_bytes self.now.texts.items) (name - 1) ≡ Some result.now }
+    {
+        self.texts[name as usize - 1].as_str()
     }
 }

@@ -1,15 +1,21 @@
 // The blocks, decisions and sites of a program.
 
-ghost use Rattle.std.specs.Prelude.{MatchResult};
-ghost use Rattle.c_sites.specs.Refused.{AreSites, IsRefused};
+ghost use Rattle.std.specs.Prelude.{◌≡◌, map, length, All, None, IfOk, MatchResult};
+ghost use Rattle.c_tree.specs.Tables.{tables_shape};
+ghost use Rattle.c_items.specs.ItemView.{item_shape};
+ghost use Rattle.c_items.specs.Sound.{AreSound};
+ghost use Rattle.c_sites.specs.Limits.{no_counts, excess};
+ghost use Rattle.c_sites.specs.Refused.{IsRead, AreNumbered, AreSites, IsRefused};
 
 use crate::limits::excess;
 use crate::lists::lists_of;
-use crate::marked::unit_mark;
 use crate::numbered::Sites;
-use crate::units::items_of;
-use atac_base::place::Pos;
+use atac_base::place::{NoMemory, Pos};
+use c_items::items::Item;
+use c_items::units::items_of;
+use c_marks::marked::unit_mark;
 use c_tree::program::Program;
+use c_tree::tables::Tables;
 use std::alloc::Global;
 
 /// Why a program's sites are not numbered: 52 with the place of the first probe or program line in it; else 50 with the
@@ -20,8 +26,8 @@ pub enum SiteRefusal {
     NoMemory,
 }
 
-/// The blocks, decisions, definitions and uses of a program.
-#[tactic(auto, using(crate::proofs::Few::are_few))]
+/// The blocks, decisions, definitions and uses of a program. It takes one walk over its tree, and time in its leaf names,
+/// each site's counted by itself and as long as it is: each is made and looked up once.
 pub fn sites(alloc: Global, program: &Program) -> Result<Sites, SiteRefusal>
     ensures { MatchResult result (AreSites program.now) (IsRefused program.now) }
 {
@@ -37,8 +43,21 @@ pub fn sites(alloc: Global, program: &Program) -> Result<Sites, SiteRefusal>
     if let Some(pos) = excess(tables, &items) {
         return Err(SiteRefusal::At(50, pos));
     }
-    match lists_of(alloc, items) {
-        Ok(lists) => Ok(Sites::from_lists(lists)),
+    match numbered(alloc, tables, items) {
+        Ok(sites) => Ok(sites),
         Err(_) => Err(SiteRefusal::NoMemory),
     }
+}
+
+// The items, of which there are not too many.
+#[tactic(auto, using(crate::proofs::Made::all_made))]
+fn numbered(alloc: Global, tables: &Tables, items: Vec<Item>) -> Result<Sites, NoMemory>
+    requires few { excess (tables_shape tables.now).structures no_counts (map item_shape items.items) ≡ None }
+    requires sound { AreSound (map item_shape items.items) }
+    ensures numbered { IfOk result (AreNumbered (tables_shape tables.now).structures (map item_shape items.items)) }
+    ensures reads { IfOk result (λ s. All (IsRead (length s.lists.decisions.items)) s.lists.uses.items) }
+{
+    let (lists, names) = lists_of(alloc, tables, items)?;
+    let texts = names.texts(alloc)?;
+    Ok(Sites::new(lists, texts))
 }

@@ -1,0 +1,5 @@
+pub mod Steps
+pub mod Numbering
+pub mod Kept
+pub mod Goes
+mod Worked

@@ -1,0 +1,13 @@
+//! The items of a program: its blocks, decisions, definitions and uses, in the order of its tree.
+#![tactic(auto)]
+
+pub mod around;
+pub mod items;
+pub mod labels;
+pub mod outcomes;
+pub mod places;
+pub mod stating;
+pub mod tests;
+pub mod units;
+pub mod walker;
+pub mod walking;
