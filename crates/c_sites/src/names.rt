@@ -61,12 +61,13 @@ impl Names {
     }
 
     /// The texts of the names, in their order.
-    pub fn texts(&self, alloc: Global) -> Result<Vec<String>, NoMemory>
-        ensures { IfOk result (λ t. map string_bytes t.items ≡ map spelling self.now) }
+    pub fn into_texts(self, alloc: Global) -> Result<Vec<String>, NoMemory>
+        ensures { IfOk result (λ t. map string_bytes t.items ≡ map spelling self) }
     {
+        let Names { leaves } = self;
         let mut texts = Vec::new(alloc);
-        for leaf in self.leaves.as_slice() {
-            let text = spelled(alloc, &leaf.text)?;
+        for leaf in leaves {
+            let text = spelled(alloc, leaf.text)?;
             if texts.push(text).is_err() {
                 return Err(NoMemory);
             }
@@ -75,8 +76,17 @@ impl Names {
     }
 }
 
-// The text whose characters are these bytes.
-fn spelled(alloc: Global, bytes: &[u8]) -> Result<String, NoMemory>
+// The text whose characters are these bytes. Of ASCII they are the text already.
+fn spelled(alloc: Global, bytes: Vec<u8>) -> Result<String, NoMemory>
+    ensures { IfOk result (λ t. string_bytes t ≡ encode_utf8_all bytes.items) }
+{
+    if !bytes.is_ascii() {
+        return widened(alloc, &bytes);
+    }
+    Ok(String::from_utf8(bytes).unwrap())
+}
+
+fn widened(alloc: Global, bytes: &[u8]) -> Result<String, NoMemory>
     ensures { IfOk result (λ t. string_bytes t ≡ encode_utf8_all bytes.now) }
 {
     let mut text = String::new(alloc);

@@ -58,6 +58,6 @@ fn numbered(alloc: Global, tables: &Tables, items: Vec<Item>) -> Result<Sites, N
     ensures reads { IfOk result (λ s. All (IsRead (length s.lists.decisions.items)) s.lists.uses.items) }
 {
     let (lists, names) = lists_of(alloc, tables, items)?;
-    let texts = names.texts(alloc)?;
+    let texts = names.into_texts(alloc)?;
     Ok(Sites::new(lists, texts))
 }

@@ -1,7 +1,7 @@
 use Rattle.std.proofs.Common.{◌≡◌, ◌++◌, drop}
 use Rattle.std.specs.String.{string_bytes}
 use Rattle.std.specs.Str.{encode_utf8_all}
-use Rattle.c_sites.proofs.names.spelled.Given as goal
+use Rattle.c_sites.proofs.names.widened.Given as goal
 
 abbrev pub invariant-loop-byte : goal.invariant-loop-byte
 invariant-loop-byte l = string_bytes l.text ++ encode_utf8_all (drop l.byte-index l.bytes) ≡ encode_utf8_all l.bytes

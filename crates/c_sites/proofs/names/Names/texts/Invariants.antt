@@ -1,9 +1,0 @@
-use Rattle.std.proofs.Common.{◌≡◌, ◌++◌, drop, map}
-use Rattle.std.specs.String.{string_bytes}
-use Rattle.c_sites.specs.LeafView.{leaf_shape}
-use Rattle.c_sites.specs.Spelled.{spelling}
-use Rattle.c_sites.proofs.names.Names.texts.Given as goal
-
-abbrev pub invariant-loop-leaf : goal.invariant-loop-leaf
-invariant-loop-leaf l =
-    map string_bytes l.texts.items ++ map spelling (map leaf_shape (drop l.leaf-index l.leaf-items)) ≡ map spelling (map leaf_shape l.leaf-items)
