@@ -33,7 +33,24 @@ fn only(alloc: Global, n: u64) -> Result<Vec<u64>, AllocError> {
     Ok(which)
 }
 
-/// `cover p e` over a shelf that holds a program under `p` and an input under `e`.
+// A call over a shelf that holds a program under `p` and an input under `e`.
+fn call(
+    alloc: Global,
+    words: &Vec<String>,
+    program: &[u8],
+    input: &[u8],
+    fails: Fails,
+) -> Result<Left, AllocError> {
+    let mut shelf = MemoryShelf::new(alloc, only(alloc, fails.fetch)?, Vec::new(alloc));
+    let _ = shelf.keep("p", program);
+    let _ = shelf.keep("e", input);
+    let mut out = MemorySink::new(alloc, only(alloc, fails.put)?);
+    let mut err = MemorySink::new(alloc, only(alloc, fails.tell)?);
+    let status = atac(alloc, words, &mut shelf, &mut out, &mut err);
+    Ok(Left { status, out, err })
+}
+
+/// `cover p e` with that program and input.
 pub fn cover(
     alloc: Global,
     program: &[u8],
@@ -44,11 +61,13 @@ pub fn cover(
     words.push(String::from_str(alloc, "cover")?)?;
     words.push(String::from_str(alloc, "p")?)?;
     words.push(String::from_str(alloc, "e")?)?;
-    let mut shelf = MemoryShelf::new(alloc, only(alloc, fails.fetch)?, Vec::new(alloc));
-    let _ = shelf.keep("p", program);
-    let _ = shelf.keep("e", input);
-    let mut out = MemorySink::new(alloc, only(alloc, fails.put)?);
-    let mut err = MemorySink::new(alloc, only(alloc, fails.tell)?);
-    let status = atac(alloc, &words, &mut shelf, &mut out, &mut err);
-    Ok(Left { status, out, err })
+    call(alloc, &words, program, input, fails)
+}
+
+/// `check p` with that program.
+pub fn check(alloc: Global, program: &[u8], fails: Fails) -> Result<Left, AllocError> {
+    let mut words = Vec::new(alloc);
+    words.push(String::from_str(alloc, "check")?)?;
+    words.push(String::from_str(alloc, "p")?)?;
+    call(alloc, &words, program, b"", fails)
 }

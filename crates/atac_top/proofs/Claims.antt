@@ -2,18 +2,21 @@
 use Rattle.std.proofs.Common.{◌≡◌, ◌⊎◌, inl, inr, refl, ap, ◌∙◌, subst, List, [], ◌∷◌, ◌++◌, ℕ, Option, None, Some, arith}
 use Rattle.std.specs.Io.KnownBytes.{append_known}
 use Rattle.atac_base.specs.Outside.{ShelfState, SinkState, Said, Agrees}
-use Rattle.atac_top.specs.Words.{Command, Cover}
+use Rattle.c_syntax.specs.Shape as full
+use Rattle.c_tree.specs.Tables.{TablesShape}
+use Rattle.c_sites.specs.Refused.{refusal}
+use Rattle.atac_top.specs.Words.{Command, Check, Cover}
 use Rattle.atac_top.specs.Ends.{End, IsDone, BadWords, NotAccepted, NotHeld, TooLong, ReadFailed, WriteFailed, OutOfMemory, status_of}
 use Rattle.first_tree.specs.Shape.{UnitShape}
-use Rattle.atac_top.specs.Programs.{IsFirst, IsAccepted, Refusal, by_front, not_yet, Reading, Refuses, Gives, IsUnderstood, section, report}
+use Rattle.atac_top.specs.Programs.{IsFirst, IsAccepted, Rejection, by_front, by_sites, Refusal, rejected, not_yet, Counts, counts_of, counts_text, Reading, Refuses, Counted, Gives, IsUnderstood, section, report}
 use Rattle.atac_top.specs.Answers.{Answer, asked, names, text, gets, Gets, program_most, input_most}
 use Rattle.atac_top.specs.Runs.{AllAgree, IsOfGot, Understands, Breaks, Answers, Goes, Runs}
-use Rattle.atac_top.specs.Claims.{IsHeld, IsProgram, Supposes, Shows, NoFault}
+use Rattle.atac_top.specs.Claims.{IsHeld, Passes, IsProgram, Supposes, Shows, NoFault}
 use Rattle.atac_top.specs.declared.status.Status.{Status}
 use Rattle.atac_top.specs.declared.status.Status.TheVariants.{Done, NoMemory}
 use Rattle.c_front.specs.Front as front
 use Rattle.c_front.proofs.One.{is_one}
-use Rattle.atac_top.proofs.Asked.{cover_done, cover_text}
+use Rattle.atac_top.proofs.Asked.{cover_done, cover_text, check_done}
 
 module _ (c : Option Command) (shelf shelf' : ShelfState) (out out' : SinkState) (found : List (Option (List ℕ))) (put : List ℕ) (fine : NoFault shelf shelf' out out') where
   -- where the call breaks off at its program, memory was wanted, or a count rose
@@ -48,23 +51,62 @@ got file most said found h agrees =
     let is : found ≡ Some h.bytes = subst (λ (s : Said). Agrees s found) h.is agrees in
     rw is (grind (arith, h.short))
 
--- a program of the first form that the front end accepts isn't refused
-not_refused : (source said : List ℕ) (P : UnitShape) → IsAccepted source → IsFirst source P → Refusal source said → ⊥
-not_refused source said P a first (by_front number p read is) =
+-- a text is one program at most
+same_program : (source : List ℕ) (a : IsAccepted source) (u : full.UnitShape) (t : TablesShape) → front.IsRead source (front.program u t) → front.program u t ≡ front.program a.unit a.tables
+same_program source a u t read = (is_one source).program_alone a.unit a.tables (front.program u t) a.read read
+
+-- a text that is accepted is not rejected
+not_rejected : (source said : List ℕ) → IsAccepted source → Rejection source said → ⊥
+not_rejected source said a (by_front number p read is) =
     let e : front.refused number p ≡ front.program a.unit a.tables = (is_one source).program_alone a.unit a.tables (front.refused number p) a.read read in
     absurd (cc)
+not_rejected source said a (by_sites u t number p read is_refused is) =
+    let e : front.program u t ≡ front.program a.unit a.tables = same_program source a u t read in
+    let same_unit : u ≡ a.unit = cc in
+    let same_tables : t ≡ a.tables = cc in
+    let none : refusal t u ≡ None = rw (same_unit, same_tables) a.clean in
+    absurd (cc)
+
+-- nor refused, if it is a program of the first form
+not_refused : (source said : List ℕ) (P : UnitShape) → IsAccepted source → IsFirst source P → Refusal source said → ⊥
+not_refused source said P a first (rejected r) = not_rejected source said a r
 not_refused source said P a first (not_yet accepted none is) = none P first
+
+-- and it has the same counts, whenever it is counted
+same_counts : (source : List ℕ) (a b : IsAccepted source) → counts_of b.tables b.unit ≡ counts_of a.tables a.unit
+same_counts source a b =
+    let e : front.program b.unit b.tables ≡ front.program a.unit a.tables = same_program source a b.unit b.tables b.read in
+    let same_unit : b.unit ≡ a.unit = cc in
+    let same_tables : b.tables ≡ a.tables = cc in
+    rw (same_unit, same_tables) refl
+
+-- the answer that tells these counts
+abbrev told : Counts → Answer
+told n = record { end = IsDone; sections = []; rest = counts_text n; kept = None }
+
+-- it is checked
+checked_done : (program : List ℕ) (p : Option (List ℕ)) (source : List ℕ) (u : Reading) → gets program program_most p ≡ Gets source → (a : IsAccepted source) → IsUnderstood (Check program) source u
+    → asked (Some (Check program)) u (p ∷ []) ≡ record { end = IsDone; sections = []; rest = counts_text (counts_of a.tables a.unit); kept = None }
+checked_done program p source (Refuses said) g a is = absurd (not_rejected source said a is)
+checked_done program p source (Counted n) g a is = check_done program p source g n ∙ ap told (is.counts ∙ same_counts source a is.accepted)
+checked_done program p source (Gives P) g a is = absurd is
 
 -- it is understood
 understood_done : (program input : List ℕ) (p i : Option (List ℕ)) (source bytes : List ℕ) (P : UnitShape) (u : Reading) → gets program program_most p ≡ Gets source → gets input input_most i ≡ Gets bytes
-    → IsAccepted source → IsFirst source P → IsUnderstood source u → (asked (Some (Cover program input)) u (p ∷ i ∷ [])).end ≡ IsDone
+    → IsAccepted source → IsFirst source P → IsUnderstood (Cover program input) source u → (asked (Some (Cover program input)) u (p ∷ i ∷ [])).end ≡ IsDone
 understood_done program input p i source bytes P (Refuses said) g h a first is = absurd (not_refused source said P a first is)
+understood_done program input p i source bytes P (Counted n) g h a first is = absurd is
 understood_done program input p i source bytes P (Gives Q) g h a first is = ap (λ (a : Answer). a.end) (cover_done program input p i source Q g bytes h)
 
-supposed : (command : Command) (says : List ℕ → Said) (found : List (Option (List ℕ))) (u : Reading) → AllAgree says (names (Some command)) found → Supposes command says → Understands (names (Some command)) found u → (asked (Some command) u found).end ≡ IsDone
+supposed : (command : Command) (says : List ℕ → Said) (found : List (Option (List ℕ))) (u : Reading) → AllAgree says (names (Some command)) found → Supposes command says → Understands (Some command) found u → (asked (Some command) u found).end ≡ IsDone
+supposed (Check program) says (p ∷ []) u agrees h is =
+    let g = got program program_most _ p h.held agrees.0 in
+    ap (λ (a : Answer). a.end) (checked_done program p _ u g h.accepted (subst (λ x. IsOfGot (Check program) x u) g is))
+supposed (Check program) says [] u agrees h is = absurd agrees
+supposed (Check program) says (p ∷ i ∷ rest) u agrees h is = absurd agrees.1
 supposed (Cover program input) says (p ∷ i ∷ []) u agrees h is =
     let g = got program program_most _ p h.0.held agrees.0 in
-    understood_done program input p i _ _ h.0.program u g (got input input_most _ i h.1 agrees.1.0) h.0.accepted h.0.first (subst (λ x. IsOfGot x u) g is)
+    understood_done program input p i _ _ h.0.program u g (got input input_most _ i h.1 agrees.1.0) h.0.accepted h.0.first (subst (λ x. IsOfGot (Cover program input) x u) g is)
 supposed (Cover program input) says [] u agrees h is = absurd agrees
 supposed (Cover program input) says (p ∷ []) u agrees h is = absurd agrees.1
 supposed (Cover program input) says (p ∷ i ∷ j ∷ rest) u agrees h is = absurd agrees.1.1
@@ -81,24 +123,33 @@ abbrev pub OneProgram : Type 0
 OneProgram = (source : List ℕ) (P Q : UnitShape) → IsFirst source P → IsFirst source Q → Q ≡ P
 
 answer_text : OneProgram → (program input : List ℕ) (p i : Option (List ℕ)) (source bytes : List ℕ) (P : UnitShape) (u : Reading) → gets program program_most p ≡ Gets source → gets input input_most i ≡ Gets bytes
-    → IsAccepted source → IsFirst source P → IsUnderstood source u → text (asked (Some (Cover program input)) u (p ∷ i ∷ [])) ≡ section input P bytes ++ report P bytes
+    → IsAccepted source → IsFirst source P → IsUnderstood (Cover program input) source u → text (asked (Some (Cover program input)) u (p ∷ i ∷ [])) ≡ section input P bytes ++ report P bytes
 answer_text one program input p i source bytes P (Refuses said) g h a first is = absurd (not_refused source said P a first is)
+answer_text one program input p i source bytes P (Counted n) g h a first is = absurd is
 answer_text one program input p i source bytes P (Gives Q) g h a first is =
     cover_text program input p i source Q g bytes h ∙ ap (λ (R : UnitShape). section input R bytes ++ report R bytes) (one source P Q first is.1)
 
-shown_text : OneProgram → (program input : List ℕ) (says : List ℕ → Said) (found : List (Option (List ℕ))) (u : Reading) → AllAgree says (names (Some (Cover program input))) found → Understands (names (Some (Cover program input))) found u
+shown_text : OneProgram → (program input : List ℕ) (says : List ℕ → Said) (found : List (Option (List ℕ))) (u : Reading) → AllAgree says (names (Some (Cover program input))) found → Understands (Some (Cover program input)) found u
     → (p : IsProgram (says program)) (i : IsHeld (says input) input_most) → text (asked (Some (Cover program input)) u found) ≡ section input p.program i.bytes ++ report p.program i.bytes
 shown_text one program input says (f ∷ g ∷ []) u agrees is p i =
     let got_source = got program program_most _ f p.held agrees.0 in
-    answer_text one program input f g _ _ p.program u got_source (got input input_most _ g i agrees.1.0) p.accepted p.first (subst (λ x. IsOfGot x u) got_source is)
+    answer_text one program input f g _ _ p.program u got_source (got input input_most _ g i agrees.1.0) p.accepted p.first (subst (λ x. IsOfGot (Cover program input) x u) got_source is)
 shown_text one program input says [] u agrees is p i = absurd agrees
 shown_text one program input says (f ∷ []) u agrees is p i = absurd agrees.1
 shown_text one program input says (f ∷ g ∷ k ∷ rest) u agrees is p i = absurd agrees.1.1
 
-done_put : (c : Option Command) (shelf shelf' : ShelfState) (out out' : SinkState) (end : End) (h : Goes c shelf shelf' out out' end) → status_of end ≡ Done → (u : Reading) × Understands (names c) h.found u × (h.put ≡ text (asked c u h.found))
+counted_text : (program : List ℕ) (says : List ℕ → Said) (found : List (Option (List ℕ))) (u : Reading) → AllAgree says (names (Some (Check program))) found → Understands (Some (Check program)) found u
+    → (p : Passes (says program)) → text (asked (Some (Check program)) u found) ≡ counts_text (counts_of p.accepted.tables p.accepted.unit)
+counted_text program says (f ∷ []) u agrees is p =
+    let got_source = got program program_most _ f p.held agrees.0 in
+    ap (λ (a : Answer). text a) (checked_done program f _ u got_source p.accepted (subst (λ x. IsOfGot (Check program) x u) got_source is))
+counted_text program says [] u agrees is p = absurd agrees
+counted_text program says (f ∷ g ∷ rest) u agrees is p = absurd agrees.1
+
+done_put : (c : Option Command) (shelf shelf' : ShelfState) (out out' : SinkState) (end : End) (h : Goes c shelf shelf' out out' end) → status_of end ≡ Done → (u : Reading) × Understands c h.found u × (h.put ≡ text (asked c u h.found))
 done_put c shelf shelf' out out' IsDone h is = by_way h.comes
   where
-    by_way : Breaks shelf shelf' (names c) IsDone h.put ⊎ Answers c shelf shelf' out out' h.found IsDone h.put → (u : Reading) × Understands (names c) h.found u × (h.put ≡ text (asked c u h.found))
+    by_way : Breaks shelf shelf' (names c) IsDone h.put ⊎ Answers c shelf shelf' out out' h.found IsDone h.put → (u : Reading) × Understands c h.found u × (h.put ≡ text (asked c u h.found))
     by_way (inl b) = absurd b
     by_way (inr a) = (a.understood, a.is, a.comes.1)
 done_put c shelf shelf' out out' OutOfMemory h is = absurd (cc)
@@ -110,6 +161,9 @@ done_put c shelf shelf' out out' (NotHeld file) h is = absurd (cc)
 done_put c shelf shelf' out out' (TooLong file) h is = absurd (cc)
 
 pub shows : OneProgram → (command : Command) (shelf shelf' : ShelfState) (out out' : SinkState) (end : End) → Goes (Some command) shelf shelf' out out' end → status_of end ≡ Done → Shows command shelf.says out out'
+shows one (Check program) shelf shelf' out out' end h is = λ p.
+    let d = done_put (Some (Check program)) shelf shelf' out out' end h is in
+    h.bytes ∙ ap (append_known out.bytes) (d.2 ∙ counted_text program shelf.says h.found d.0 h.agrees d.1 p)
 shows one (Cover program input) shelf shelf' out out' end h is = λ p i.
     let d = done_put (Some (Cover program input)) shelf shelf' out out' end h is in
     h.bytes ∙ ap (append_known out.bytes) (d.2 ∙ shown_text one program input shelf.says h.found d.0 h.agrees d.1 p i)

@@ -30,7 +30,7 @@ pub front_of : (before piece after front all : List ℕ) → IsFront front piece
 front_of before piece after front all h whole = (h.0 ++ after, whole ∙ rw h.1 (simp append_assoc))
 
 module _ (asked_for : Option Command) (shelf shelf' : ShelfState) (out out' : SinkState) (found : List (Option (List ℕ))) (agrees : AllAgree shelf.says (names asked_for) found)
-    (understood : Reading) (is_understood : Understands (names asked_for) found understood)
+    (understood : Reading) (is_understood : Understands asked_for found understood)
     (same : shelf'.says ≡ shelf.says) (shelf_grows : ShelfGrows shelf shelf') (out_grows : SinkGrows out out') where
   goes : (e : End) (put : List ℕ) → Comes shelf shelf' out out' (names asked_for) (asked asked_for understood found) e put → Keeps (asked asked_for understood found).kept e shelf shelf' → out'.bytes ≡ append_known out.bytes put → Goes asked_for shelf shelf' out out' e
   goes e put comes keeps bytes =
@@ -116,14 +116,14 @@ module _ (asked_for : Option Command) (shelf shelf' : ShelfState) (out : SinkSta
   pub wants_at_once : Goes asked_for shelf shelf' out out OutOfMemory
   wants_at_once = breaks OutOfMemory (refl, same)
 
-  stops_at : (e : End) → Understands (names asked_for) (f ∷ others) (Refuses []) → asked asked_for (Refuses []) (f ∷ others) ≡ refused [] e → Comes shelf shelf' out out (names asked_for) (refused [] e) e [] → Keeps None e shelf shelf' → Goes asked_for shelf shelf' out out e
+  stops_at : (e : End) → Understands asked_for (f ∷ others) (Refuses []) → asked asked_for (Refuses []) (f ∷ others) ≡ refused [] e → Comes shelf shelf' out out (names asked_for) (refused [] e) e [] → Keeps None e shelf shelf' → Goes asked_for shelf shelf' out out e
   stops_at e u is comes keeps =
       record { found = f ∷ others; put = []; agrees = agrees; comes = inr (record { understood = Refuses []; is = u; comes = rw is comes; keeps = rw is keeps }); bytes = known_nothing _; shelf_grows = grows; out_grows = sink_stays _ }
 
   pub program_stops : (name : List ℕ) (most : ℕ) (e : End)
       → FetchStops shelf shelf' name most f e
       → slice_get (names asked_for) 0 ≡ Some name
-      → (gets name most f ≡ Stops e → Understands (names asked_for) (f ∷ others) (Refuses []) × (asked asked_for (Refuses []) (f ∷ others) ≡ refused [] e))
+      → (gets name most f ≡ Stops e → Understands asked_for (f ∷ others) (Refuses []) × (asked asked_for (Refuses []) (f ∷ others) ≡ refused [] e))
       → Goes asked_for shelf shelf' out out e
   program_stops name most (NotHeld file) h at is = stops_at _ (is h).0 (is h).1 (refl, refl) same
   program_stops name most (TooLong file) h at is = stops_at _ (is h).0 (is h).1 (refl, refl) same

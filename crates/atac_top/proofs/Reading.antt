@@ -13,14 +13,31 @@ use Rattle.first_tree.specs.Shape.{UnitShape}
 use Rattle.first_tokens.specs.Tokens.{tokens_of}
 use Rattle.first_form.specs.Grammar.{IsProgram}
 use Rattle.first_form.proofs.Whole.{program_found, found_only}
-use Rattle.atac_top.specs.Programs.{IsUnderstood, IsAccepted, IsFirst, Refuses}
-use Rattle.atac_top.specs.Understanding.{Reads, ReadAs}
+use Rattle.atac_top.specs.Programs.{Rejection, Refusal, IsAccepted, IsFirst}
+use Rattle.atac_top.specs.Understanding.{HasSites, CheckedAs, Reads, ReadAs}
+use Rattle.atac_top.specs.declared.checking.Checking.{Checking}
+use Rattle.atac_top.specs.declared.checking.Checking.TheVariants as checking
+use Rattle.c_sites.specs.declared.numbered.Sites.{Sites}
+use Rattle.c_sites.specs.declared.sites.SiteRefusal.{SiteRefusal}
+use Rattle.c_sites.specs.declared.sites.SiteRefusal.TheVariants as site
+use Rattle.c_sites.specs.Refused as sites
+use Rattle.c_tree.specs.declared.program.Program.{Program}
 
-pub read_refused : (r : Reading) (said : _) (s t : List ℕ) → r ≡ reading.Refuses said → s ≡ t → ReadAs s r → IsUnderstood t (Refuses (string_bytes said))
+pub read_refused : (r : Reading) (said : _) (s t : List ℕ) → r ≡ reading.Refuses said → s ≡ t → ReadAs s r → Refusal t (string_bytes said)
 read_refused r said s t e same h = subst (λ (x : List ℕ). ReadAs x (reading.Refuses said)) same (subst (ReadAs s) e h)
 
 pub read_given : (r : Reading) (u : Understood) (s t : List ℕ) → r ≡ reading.Gives u → s ≡ t → ReadAs s r → IsAccepted t × Reads t u
 read_given r u s t e same h = subst (λ (x : List ℕ). ReadAs x (reading.Gives u)) same (subst (ReadAs s) e h)
+
+pub check_refused : (r : Checking) (said : _) (s t : List ℕ) → r ≡ checking.Refuses said → s ≡ t → CheckedAs s r → Rejection t (string_bytes said)
+check_refused r said s t e same h = subst (λ (x : List ℕ). CheckedAs x (checking.Refuses said)) same (subst (CheckedAs s) e h)
+
+pub check_accepts : (r : Checking) (found : Sites) (s t : List ℕ) → r ≡ checking.Accepts found → s ≡ t → CheckedAs s r → HasSites t found
+check_accepts r found s t e same h = subst (λ (x : List ℕ). CheckedAs x (checking.Accepts found)) same (subst (CheckedAs s) e h)
+
+-- its sites are refused, by this number and at this place
+pub sites_refused : (P : Program) (e : SiteRefusal) (n : ℕ) (p : Pos) → e ≡ site.At n p → sites.IsRefused P e → sites.refusal_of P ≡ Some (n, p)
+sites_refused P e n p is h = subst (sites.IsRefused P) is h
 
 -- the front end refuses the text, by this number and at this place
 pub refused_at : (source : List ℕ) (e : FrontRefusal) (n : ℕ) (p : Pos) → e ≡ At n p → front.IsRefused source e → front.IsRead source (front.refused n p)

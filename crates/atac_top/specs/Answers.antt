@@ -1,9 +1,9 @@
 -- What a command answers, by the files that it finds.
 use Rattle.std.specs.Prelude.{ℕ, cond, leb, List, [], ◌∷◌, ◌++◌, length, Option, None, Some}
-use Rattle.atac_top.specs.Words.{Command, Cover, fetched}
+use Rattle.atac_top.specs.Words.{Command, Check, Cover, fetched}
 use Rattle.atac_top.specs.Ends.{End, IsDone, BadWords, NotAccepted, NotHeld, TooLong}
 use Rattle.first_tree.specs.Shape.{UnitShape}
-use Rattle.atac_top.specs.Programs.{Reading, Refuses, Gives, section, report}
+use Rattle.atac_top.specs.Programs.{Counts, Reading, Refuses, Counted, Gives, counts_text, section, report}
 
 -- An answer: how the call ends, what it puts (whole sections, and then a rest), and what it keeps under which name.
 pub record Answer : Type 0 where
@@ -36,9 +36,16 @@ abbrev pub given : List (List ℕ) → Got → (List ℕ → Answer) → Answer
 given sections (Gets bytes) go = go bytes
 given sections (Stops end) go = refused sections end
 
--- A program that isn't understood is refused.
+-- A program that is not accepted is refused.
+abbrev pub counted : List ℕ → Reading → (Counts → Answer) → Answer
+counted file (Refuses said) go = refused [] (NotAccepted file said)
+counted file (Counted n) go = go n
+counted file (Gives P) go = refused [] BadWords
+
+-- So is one that can't be run.
 abbrev pub accepted : List ℕ → Reading → (UnitShape → Answer) → Answer
 accepted file (Refuses said) go = refused [] (NotAccepted file said)
+accepted file (Counted n) go = refused [] BadWords
 accepted file (Gives P) go = go P
 
 abbrev pub program_most : ℕ
@@ -49,6 +56,10 @@ input_most = 16777216
 
 -- The answer to a command, by what is understood of the program's text and by the bytes under each name that it fetches, in their order.
 abbrev pub answer : Command → Reading → List (Option (List ℕ)) → Answer
+answer (Check program) understood (p ∷ []) =
+    given [] (gets program program_most p) (λ source.
+    counted program understood (λ n.
+    record { end = IsDone; sections = []; rest = counts_text n; kept = None }))
 answer (Cover program input) understood (p ∷ i ∷ []) =
     given [] (gets program program_most p) (λ source.
     accepted program understood (λ P.

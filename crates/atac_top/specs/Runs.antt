@@ -2,7 +2,7 @@
 use Rattle.std.specs.Prelude.{◌≡◌, ◌≢◌, ◌⊎◌, ℕ, ◌-◌, List, [], ◌∷◌, take, slice_get, Option, None, Some, IsTrue, IsSome}
 use Rattle.std.specs.Io.KnownBytes.{append_known}
 use Rattle.atac_base.specs.Outside.{ShelfState, SinkState, Said, Agrees, Rose, IsFront}
-use Rattle.atac_top.specs.Words.{Command}
+use Rattle.atac_top.specs.Words.{Command, program_of}
 use Rattle.atac_top.specs.Ends.{End, IsDone, ReadFailed, WriteFailed, OutOfMemory, status_of, line_of}
 use Rattle.atac_top.specs.Programs.{Reading, IsUnderstood}
 use Rattle.atac_top.specs.Answers.{Answer, asked, names, joined, text, Got, Gets, Stops, gets, program_most}
@@ -50,18 +50,18 @@ pub record Tells (err err' : SinkState) (line : List ℕ) : Type 0 where
   pub grows : SinkGrows err err'
 
 -- What is understood of the program's text, the first file, where its bytes are got.
-abbrev pub IsOfGot : Got → Reading → Type 0
-IsOfGot (Gets source) understood = IsUnderstood source understood
-IsOfGot (Stops end) understood = Unit {0}
+abbrev pub IsOfGot : Command → Got → Reading → Type 0
+IsOfGot command (Gets source) understood = IsUnderstood command source understood
+IsOfGot command (Stops end) understood = Unit {0}
 
-abbrev pub Understands : List (List ℕ) → List (Option (List ℕ)) → Reading → Type 0
-Understands (name ∷ names) (p ∷ found) understood = IsOfGot (gets name program_most p) understood
-Understands names found understood = Unit {0}
+abbrev pub Understands : Option Command → List (Option (List ℕ)) → Reading → Type 0
+Understands (Some command) (p ∷ found) understood = IsOfGot command (gets (program_of command) program_most p) understood
+Understands asked_for found understood = Unit {0}
 
 -- The answer, by what is understood, and what came of it.
 pub record Answers (asked_for : Option Command) (shelf shelf' : ShelfState) (out out' : SinkState) (found : List (Option (List ℕ))) (end : End) (put : List ℕ) : Type 0 where
   pub understood : Reading
-  pub is : Understands (names asked_for) found understood
+  pub is : Understands asked_for found understood
   pub comes : Comes shelf shelf' out out' (names asked_for) (asked asked_for understood found) end put
   pub keeps : Keeps (asked asked_for understood found).kept end shelf shelf'
 

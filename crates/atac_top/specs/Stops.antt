@@ -3,7 +3,8 @@ use Rattle.std.specs.Prelude.{Result, Ok, Err, string_bytes}
 use Rattle.atac_top.specs.declared.stop.Stop.{Stop}
 use Rattle.atac_top.specs.declared.stop.Stop.TheVariants as stop
 use Rattle.atac_top.specs.declared.words.Asked.{Asked}
-use Rattle.atac_top.specs.Words.{Command, Cover}
+use Rattle.atac_top.specs.declared.words.Asked.TheVariants as asked
+use Rattle.atac_top.specs.Words.{Command, Check, Cover}
 use Rattle.atac_top.specs.Ends.{End, IsDone, NotAccepted, NotHeld, TooLong, ReadFailed, WriteFailed, OutOfMemory}
 
 abbrev pub end_of : Stop → End
@@ -20,4 +21,5 @@ ended (Ok x) = IsDone
 ended (Err stop) = end_of stop
 
 abbrev pub command_of : Asked → Command
-command_of asked = Cover asked.program.now asked.input.now
+command_of (asked.Check program) = Check program.now
+command_of (asked.Cover program input) = Cover program.now input.now

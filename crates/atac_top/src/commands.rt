@@ -1,11 +1,13 @@
 ghost use Rattle.std.specs.Prelude.{◌≡◌, Some};
-ghost use Rattle.atac_top.specs.Words.{Cover};
-ghost use Rattle.atac_top.specs.Stops.{ended};
+ghost use Rattle.atac_top.specs.Words.{Check, Cover};
+ghost use Rattle.atac_top.specs.Stops.{command_of, ended};
 ghost use Rattle.atac_top.specs.Runs.{Goes};
 
+use crate::checking::{self, Checking, counts_of};
 use crate::outside::{fetch, put};
 use crate::program::{Reading, run_on, understand};
 use crate::stop::Stop;
+use crate::words::Asked;
 use atac_base::outside::{Shelf, Sink};
 use std::alloc::Global;
 
@@ -15,8 +17,27 @@ const PROGRAM_MOST: u64 = 1_048_576;
 /// The most bytes of an input.
 const INPUT_MOST: u64 = 16_777_216;
 
-/// Runs the program on the input and puts the section and the report.
-pub fn cover<'a, S: Shelf, W: Sink>(
+// Checks the program and puts the line of its counts.
+fn check<'a, S: Shelf, W: Sink>(
+    alloc: Global,
+    program: &'a str,
+    shelf: &mut S,
+    out: &mut W,
+) -> Result<(), Stop<'a>>
+    ensures { Goes (Some (Check program.now)) (S.state shelf.old) (S.state shelf.new)
+        (W.state out.old) (W.state out.new) (ended result) }
+{
+    let source = fetch(alloc, shelf, program, PROGRAM_MOST)?;
+    let sites = match checking::check(alloc, source.as_slice())? {
+        Checking::Refuses(said) => return Err(Stop::NotAccepted(program, said)),
+        Checking::Accepts(sites) => sites,
+    };
+    let line = counts_of(alloc, &sites)?;
+    put(out, line.as_bytes())
+}
+
+// Runs the program on the input and puts the section and the report.
+fn cover<'a, S: Shelf, W: Sink>(
     alloc: Global,
     program: &'a str,
     input: &'a str,
@@ -35,4 +56,20 @@ pub fn cover<'a, S: Shelf, W: Sink>(
     let ran = run_on(alloc, &understood, input, bytes.as_slice())?;
     put(out, ran.section.as_slice())?;
     put(out, ran.report.as_slice())
+}
+
+/// Does what the words ask for.
+pub fn carry_out<'a, S: Shelf, W: Sink>(
+    alloc: Global,
+    asked: Asked<'a>,
+    shelf: &mut S,
+    out: &mut W,
+) -> Result<(), Stop<'a>>
+    ensures { Goes (Some (command_of asked.entry)) (S.state shelf.old) (S.state shelf.new)
+        (W.state out.old) (W.state out.new) (ended result) }
+{
+    match asked {
+        Asked::Check(program) => check(alloc, program, shelf, out),
+        Asked::Cover(program, input) => cover(alloc, program, input, shelf, out),
+    }
 }

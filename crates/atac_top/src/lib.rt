@@ -1,6 +1,7 @@
 //! The top call: reads the words, fetches the files, runs the program, and puts the texts.
 #![tactic(auto)]
 
+mod checking;
 mod commands;
 mod outside;
 mod program;

@@ -1,13 +1,12 @@
-ghost use Rattle.std.specs.Prelude.{◌≡◌, ◌≤◌, length, string_bytes, IfOk, MatchOption};
+ghost use Rattle.std.specs.Prelude.{◌≡◌, ◌≤◌, length, IfOk, MatchOption};
 ghost use Rattle.first_tree.specs.Shape.{UnitShape};
-ghost use Rattle.atac_top.specs.Programs.{IsFirst, refusal_text, section, report};
+ghost use Rattle.atac_top.specs.Programs.{IsFirst, section, report};
 ghost use Rattle.atac_top.specs.Understanding.{Holds, Reads, ReadAs};
 
+use crate::checking::{Checking, check, said};
 use crate::sections::section_of_run;
 use atac_base::items::Items;
 use atac_base::place::{NoMemory, Pos};
-use c_front::front::{FrontRefusal, read};
-use c_front::names::name_of;
 use c_machine::run::run;
 use cover_core::collector::Collector;
 use cover_report::report::report;
@@ -40,16 +39,15 @@ pub enum Reading {
     Gives(Understood),
 }
 
-/// Reads the text of a program: the front end's refusal, `29 NotYet` at 1:1 where it is a program of another form than the
-/// first, or the program.
+/// Reads the text of a program that is to be run: why it is not accepted, `29 NotYet` at 1:1 where it is a program of another
+/// form than the first, or the program.
 pub fn understand(alloc: Global, text: &[u8]) -> Result<Reading, NoMemory>
     requires { length text.now ≤ 1048576 }
     ensures { IfOk result (ReadAs text.now) }
 {
-    match read(alloc, text) {
-        Err(FrontRefusal::NoMemory) => Err(NoMemory),
-        Err(FrontRefusal::At(number, pos)) => Ok(Reading::Refuses(said(alloc, number, pos)?)),
-        Ok(_) => match understand_first(alloc, text)? {
+    match check(alloc, text)? {
+        Checking::Refuses(said) => Ok(Reading::Refuses(said)),
+        Checking::Accepts(_) => match understand_first(alloc, text)? {
             None => Ok(Reading::Refuses(said(alloc, 29, Pos { line: 1, col: 1 })?)),
             Some(understood) => Ok(Reading::Gives(understood)),
         },
@@ -71,16 +69,6 @@ fn understand_first(alloc: Global, text: &[u8]) -> Result<Option<Understood>, No
         program: Program::from_typed(reading.unit),
         items: reading.items,
     }))
-}
-
-// What is said of a program that is refused: the place, the number and its name.
-fn said(alloc: Global, number: u8, pos: Pos) -> Result<String, NoMemory>
-    ensures { IfOk result (λ s. string_bytes s ≡ refusal_text number pos) }
-{
-    match format!(in alloc; ":{}:{}: {} {}", pos.line, pos.col, number, name_of(number)) {
-        Ok(said) => Ok(said),
-        Err(_) => Err(NoMemory),
-    }
 }
 
 /// Runs the program on the input, and makes the section of this run and the report.

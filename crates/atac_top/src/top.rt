@@ -10,7 +10,7 @@ ghost use Rattle.atac_top.specs.Claims.{Supposes, Shows, NoFault};
 ghost use Rattle.atac_base.specs.declared.probes.Event.{Event};
 ghost use Rattle.cover_core.specs.Covered.{covers, IsCovered};
 
-use crate::commands::cover;
+use crate::commands::carry_out;
 use crate::status::Status;
 use crate::stop::Stop;
 use crate::words::read_words;
@@ -70,9 +70,10 @@ fn put_four<E: Sink>(err: &mut E, a: &[u8], b: &[u8], c: &[u8], d: &[u8]) -> Res
 
 /// Reads the words, does what they ask for, and puts the line of a status other than `Done` to `err`.
 ///
-/// `cover P INPUT` fetches P, at most 1,048,576 bytes, and refuses it where it isn't understood; fetches INPUT,
-/// at most 16,777,216 bytes; runs P on it; and puts the section of this run and the report to `out`. All other
-/// words are no command. An operand doesn't begin with `-`; an empty one is a name like another.
+/// `check P` fetches P, at most 1,048,576 bytes, refuses it where it isn't accepted, and puts the line of its counts to
+/// `out`. `cover P INPUT` fetches P and refuses it likewise, and where it isn't of the first form; fetches INPUT, at most
+/// 16,777,216 bytes; runs P on it; and puts the section of this run and the report to `out`. All other words are no
+/// command. An operand doesn't begin with `-`; an empty one is a name like another.
 ///
 /// `NoMemory` may come in place of each status but `Usage`. A put to `err` that fails leaves the status as it is.
 #[tactic(auto, using(cover_core::proofs::Laws::covered_law))]
@@ -95,7 +96,8 @@ pub fn atac<S: Shelf, W: Sink, E: Sink>(
     ensures read_fault { result ≡ Status.ReadFault → Rose (S.state shelf.old).read_faults (S.state shelf.new).read_faults }
     ensures write_fault { result ≡ Status.WriteFault → Rose (W.state out.old).faults (W.state out.new).faults }
 
-    // When the call is done, the sink gained the section of the program's own run and the report of its blocks.
+    // When the call is done, the sink gained the line of the program's counts, or the section of its own run and the
+    // report of its blocks.
     ensures headline { result ≡ Status.Done → IfSome (reads (map string_bytes words.now.items)) (λ command.
         Shows command (S.state shelf.old).says (W.state out.old) (W.state out.new)) }
 
@@ -115,7 +117,7 @@ pub fn atac<S: Shelf, W: Sink, E: Sink>(
         let _ = put_four(err, b"atac: ", b"", b"bad usage", b"\n");
         return Status::Usage;
     };
-    match cover(alloc, asked.program, asked.input, shelf, out) {
+    match carry_out(alloc, asked, shelf, out) {
         Ok(()) => Status::Done,
         Err(stop) => {
             tell(err, &stop);

@@ -1,0 +1,17 @@
+pub mod State
+pub mod Results
+pub mod Layout
+pub mod Operators
+pub mod Firsts
+pub mod Places
+pub mod Constants
+pub mod Knot
+pub mod Builtins
+pub mod Expressions
+pub mod Counts
+pub mod Declarations
+pub mod Statements
+pub mod Calls
+pub mod Runs
+pub mod Deeds
+pub mod Lasting
