@@ -52,9 +52,13 @@ pub fn said(alloc: Global, number: u8, pos: Pos) -> Result<String, NoMemory>
 pub fn counts_of(alloc: Global, sites: &Sites) -> Result<String, NoMemory>
     ensures { IfOk result (λ s. string_bytes s ≡ counts_text (counts_in (lists_shape sites.now.lists))) }
 {
-    match format!(in alloc; "accepted: {} blocks, {} decisions, {} definitions, {} uses\n",
-        sites.blocks(), sites.decisions(), sites.defs(), sites.uses())
-    {
+    match format!(in alloc;
+        "accepted: {} blocks, {} decisions, {} definitions, {} uses\n",
+        sites.blocks(),
+        sites.decisions(),
+        sites.defs(),
+        sites.uses()
+    ) {
         Ok(line) => Ok(line),
         Err(_) => Err(NoMemory),
     }

@@ -84,7 +84,10 @@ fn one_int(alloc: Global) -> Result<Vec<CType>, NoMemory>
 pub fn function_number(tables: &Tables, name: &[u8], gives: &CType, params: &[CType]) -> Option<u32>
     ensures { result ≡ function_number name.now (type_of gives.now) (map type_of params.now) (tables_shape tables.now).functions }
 {
-    for i in 0..tables.functions() {
+    let Some(first) = tables.first_named(name) else {
+        return None;
+    };
+    for i in first.saturating_sub(1)..tables.functions() {
         if is_function(tables.function(i + 1), name, gives, params) {
             return Some(i + 1);
         }

@@ -1,5 +1,6 @@
 ghost use Rattle.std.specs.Prelude.{◌≤◌, length, IfOk, IfErr, MatchResult};
 ghost use Rattle.c_syntax.specs.View.{unit_shape};
+ghost use Rattle.c_tree.specs.Programs.{IsSound};
 ghost use Rattle.c_front.specs.Front.{AreTokens, IsUnit, GivesProgram, IsRefused, IsOne};
 
 use atac_base::place::Pos;
@@ -35,9 +36,11 @@ fn tokens_of(alloc: Global, text: &[u8]) -> Result<Vec<Token>, FrontRefusal>
 }
 
 // The unit of a text.
+#[tactic(auto, using(c_tree::proofs::Programs::is_sound))]
 fn unit_of(alloc: Global, text: &[u8]) -> Result<Unit, FrontRefusal>
     requires { length text.now ≤ 67108864 }
     ensures unit { IfOk result (λ u. IsUnit text.now (unit_shape u)) }
+    ensures sound { IfOk result (λ u. IsSound (unit_shape u)) }
     ensures refused { IfErr result (λ e. IsRefused text.now e) }
 {
     let tokens = tokens_of(alloc, text)?;

@@ -5,8 +5,8 @@ ghost use Rattle.c_scopes.specs.Rows.{rows_of};
 ghost use Rattle.c_scopes.specs.Scoping.{named};
 
 use atac_base::place::NoMemory;
-use indexmap::map::Iter;
 use indexmap::IndexMap;
+use indexmap::map::Iter;
 use std::alloc::Global;
 use std::marker::Model;
 

@@ -1,3 +1,4 @@
+pub mod Named
 pub mod Tables
 pub mod Builtins
 pub mod State

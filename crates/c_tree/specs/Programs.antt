@@ -1,13 +1,24 @@
 -- Programs: units that were typed without complaint.
-use Rattle.std.specs.Prelude.{◌≡◌, ℕ, List, [], Option, Some, None}
+use Rattle.std.specs.Prelude.{◌≡◌, ◌≤◌, ℕ, List, [], length, Option, Some, None}
 use Rattle.c_syntax.specs.declared.tree.ProgramLine.{ProgramLine}
 use Rattle.c_syntax.specs.Shape.{UnitShape}
+use Rattle.c_syntax.specs.Shaped.{ShapedUnit}
+use Rattle.c_syntax.specs.Grammar.{tokens_of}
 use Rattle.c_values.specs.Probes.{digest_of}
 use Rattle.c_tree.specs.Tables.{TablesShape}
 use Rattle.c_tree.specs.Units.{typed_unit, complaints}
 
--- typing changes nothing of the unit, since its notes are those that typing makes; it gives these tables, and complains of nothing
+-- the grammar allows the unit, which has at most 350,000 tokens
+pub record IsSound (u : UnitShape) : Type 0 where
+  pub shaped : ShapedUnit u
+  pub few : length (tokens_of u) ≤ 350000
+
+-- the unit is a sound one with the notes that typing makes, so that typing changes nothing more; it gives these tables, and
+-- complains of nothing
 pub record IsProgram (u : UnitShape) (t : TablesShape) : Type 0 where
+  pub source : UnitShape
+  pub sound : IsSound source
+  pub typed : u ≡ (typed_unit source).unit
   pub noted : (typed_unit u).unit ≡ u
   pub tables : (typed_unit u).state.tables ≡ t
   pub clean : complaints u ≡ []

@@ -103,6 +103,13 @@ abbrev pub number_from : {R : Type 0} → (R → Bool) → ℕ → List R → Op
 number_from test n [] = None
 number_from test n (r ∷ rows) = if test r then Some n else number_from test (n + 1) rows
 
+-- the first function of that name
+abbrev pub has_name : Text → FunctionShape → Bool
+has_name x f = bytes_eq x f.name
+
+abbrev pub first_named : Text → List FunctionShape → Option ℕ
+first_named x rows = number_from (has_name x) 1 rows
+
 abbrev pub function_number : Text → TypeOf → List TypeOf → List FunctionShape → Option ℕ
 function_number x result params rows = number_from (is_function x result params) 1 rows
 

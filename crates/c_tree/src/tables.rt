@@ -1,10 +1,13 @@
-ghost use Rattle.std.specs.Prelude.{◌≤◌, length};
+ghost use Rattle.std.specs.Prelude.{◌≡◌, ◌≤◌, ℕ, List, length};
+ghost use Rattle.c_scopes.specs.Scoping.{named};
+ghost use Rattle.c_tree.specs.Named.{named_from};
 
 mod adding;
 mod changing;
 mod reading;
 
 pub use crate::numbers::NumberList;
+use c_scopes::names::Names;
 use c_syntax::text::Text;
 use c_syntax::tree::CType;
 use std::alloc::Global;
@@ -54,8 +57,11 @@ pub struct Tables {
     functions: Vec<FunctionRow>,
     variables: Vec<VariableRow>,
     literals: Vec<LiteralRow>,
+    // the number of the first function of each name
+    first: Names<u32>,
     ghost few_structures: { length structures.items ≤ 4294967295 },
     ghost few_functions: { length functions.items ≤ 4294967295 },
     ghost few_variables: { length variables.items ≤ 4294967295 },
     ghost few_literals: { length literals.items ≤ 4294967295 },
+    ghost firsts: { (x : List ℕ) → named x first ≡ named_from x 1 functions.items },
 }

@@ -4,7 +4,7 @@ use Rattle.std.proofs.lemmas.Grind.{merely}
 use Rattle.c_syntax.specs.Shape.{UnitShape}
 use Rattle.c_tree.specs.State.{State}
 use Rattle.c_tree.specs.Units.{type_unit, bodies, typed_unit}
-use Rattle.c_tree.specs.Programs.{IsProgram}
+use Rattle.c_tree.specs.Programs.{IsSound, IsProgram}
 use Rattle.c_tree.proofs.AgainUnits.{unit_again}
 use Rattle.c_tree.proofs.Programs.{program_typed}
 
@@ -13,5 +13,5 @@ pub known_again : (u v : UnitShape) (k : List Bool) → v ≡ (type_unit None u)
 known_again u v k e h = rw (e, h) (unit_again None (Some (bodies u)) u)
 
 -- what it comes to, where there is no complaint
-pub program_of : (u v : UnitShape) (s : State) → v ≡ (typed_unit u).unit → s ≡ (typed_unit u).state → s.complaints ≡ [] → ∥ IsProgram v s.tables ∥₁
-program_of u v s e h c = rw (e, h) (merely (program_typed u (ap (λ (t : State). t.complaints) (sym h) ∙ c)))
+pub program_of : (u v : UnitShape) (s : State) → IsSound u → v ≡ (typed_unit u).unit → s ≡ (typed_unit u).state → s.complaints ≡ [] → ∥ IsProgram v s.tables ∥₁
+program_of u v s sound e h c = rw (e, h) (merely (program_typed u sound (ap (λ (t : State). t.complaints) (sym h) ∙ c)))

@@ -3,6 +3,9 @@
 //! word `unchecked` leaves out the checker.
 #![tactic(auto)]
 
+ghost use Rattle.c_syntax.specs.View.{unit_shape};
+ghost use Rattle.c_tree.specs.Programs.{IsSound};
+
 use atac_base::place::Pos;
 use c_lex::{LexRefusal, TextKind, lex};
 use c_parse::refusal::ParseRefusal;
@@ -161,7 +164,9 @@ fn accepted(alloc: Global, program: &Program) -> Result<String, AllocError> {
     )
 }
 
-fn verdict(alloc: Global, unit: Unit) -> Result<String, AllocError> {
+fn verdict(alloc: Global, unit: Unit) -> Result<String, AllocError>
+    requires { IsSound (unit_shape unit) }
+{
     match check(alloc, unit) {
         Ok(program) => accepted(alloc, &program),
         Err(TypeRefusal::At(number, pos)) => refused(alloc, number, pos),
@@ -175,7 +180,9 @@ fn with_verdict(
     tokens: usize,
     unit: Unit,
     checked: bool,
-) -> Result<String, AllocError> {
+) -> Result<String, AllocError>
+    requires { IsSound (unit_shape unit) }
+{
     let counts = counted(alloc, tokens, &unit)?;
     if checked {
         let verdict = verdict(alloc, unit)?;

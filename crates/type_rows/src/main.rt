@@ -3,6 +3,9 @@
 //! a text with probes.
 #![tactic(auto)]
 
+ghost use Rattle.c_syntax.specs.View.{unit_shape};
+ghost use Rattle.c_tree.specs.Programs.{IsSound};
+
 use atac_base::place::Pos;
 use c_lex::{LexRefusal, TextKind, lex};
 use c_parse::refusal::ParseRefusal;
@@ -44,7 +47,9 @@ fn accepted(alloc: Global, program: &Program) -> Result<String, AllocError> {
     )
 }
 
-fn checked(alloc: Global, unit: Unit) -> Result<String, AllocError> {
+fn checked(alloc: Global, unit: Unit) -> Result<String, AllocError>
+    requires { IsSound (unit_shape unit) }
+{
     match check(alloc, unit) {
         Ok(program) => accepted(alloc, &program),
         Err(TypeRefusal::At(number, pos)) => refused(alloc, number, pos),

@@ -1,8 +1,10 @@
 ghost use Rattle.std.specs.Prelude.{◌≡◌, ◌<◌, [], ◌∷◌, ◌++◌, length, OnOk, OnErr};
+ghost use Rattle.c_tree.specs.Named.{kept_first};
 ghost use Rattle.c_tree.specs.Tables.{tables_shape, struct_shape, function_shape, variable_shape};
 
 use super::{FunctionRow, LiteralRow, StructRow, Tables, VariableRow};
 use atac_base::place::NoMemory;
+use c_scopes::names::Names;
 use std::alloc::Global;
 
 impl Tables {
@@ -15,6 +17,7 @@ impl Tables {
             functions: Vec::new(alloc),
             variables: Vec::new(alloc),
             literals: Vec::new(alloc),
+            first: Names::new(alloc),
         }
     }
 
@@ -31,11 +34,20 @@ impl Tables {
     }
 
     /// Appends a function.
+    #[tactic(auto, using(crate::proofs::Named::firsts_pushed))]
     pub fn push_function(&mut self, row: FunctionRow) -> Result<(), NoMemory>
         requires { length (tables_shape self.old).functions < 4294967295 }
         ensures ok { OnOk result (tables_shape self.new ≡ record (tables_shape self.old) { functions = (tables_shape self.old).functions ++ function_shape row ∷ [] }) }
         ensures err { OnErr result (tables_shape self.new ≡ tables_shape self.old) }
     {
+        if self.functions.reserve(1).is_err() {
+            return Err(NoMemory);
+        }
+        keep_first(
+            &mut self.first,
+            row.name.bytes(),
+            self.functions.len() as u32 + 1,
+        )?;
         match self.functions.push(row) {
             Ok(()) => Ok(()),
             Err(_) => Err(NoMemory),
@@ -64,5 +76,16 @@ impl Tables {
             Ok(()) => Ok(()),
             Err(_) => Err(NoMemory),
         }
+    }
+}
+
+// The number stands for the name from now on, if none does.
+fn keep_first(first: &mut Names<u32>, name: &[u8], number: u32) -> Result<(), NoMemory>
+    ensures ok { OnOk result (first.new ≡ kept_first name.now number first.old) }
+    ensures err { OnErr result (first.new ≡ first.old) }
+{
+    match first.find(name) {
+        Some(_) => Ok(()),
+        None => first.declare(name, number),
     }
 }

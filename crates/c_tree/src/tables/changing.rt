@@ -16,7 +16,7 @@ impl Tables {
     }
 
     /// The function with that number is defined, with these variables as its parameters; all else stays.
-    #[tactic(auto, using(crate::proofs::Rows::definition_set, crate::proofs::Rows::length_changed, std::proofs::lemmas::Grind::common_steps))]
+    #[tactic(auto, using(crate::proofs::Rows::definition_set, crate::proofs::Named::firsts_changed, crate::proofs::Rows::length_changed, std::proofs::lemmas::Grind::common_steps))]
     pub fn define(&mut self, i: u32, params: NumberList)
         requires { (1 ≤ i) × (i ≤ length (tables_shape self.old).functions) }
         ensures rows { tables_shape self.new ≡ with_definition i params (tables_shape self.old) }

@@ -1,5 +1,6 @@
 ghost use Rattle.std.specs.Prelude.{◌≡◌, ◌-◌, ◌≤◌, length, slice_get, Some};
 ghost use Rattle.c_tree.specs.Tables.{tables_shape, struct_shape, function_shape, variable_shape};
+ghost use Rattle.c_tree.specs.State.{first_named};
 
 use super::{FunctionRow, LiteralRow, StructRow, Tables, VariableRow};
 
@@ -38,6 +39,14 @@ impl Tables {
         ensures { slice_get (tables_shape self.now).structures (i - 1) ≡ Some (struct_shape result.now) }
     {
         &self.structures[i as usize - 1]
+    }
+
+    /// The number of the first function of that name.
+    #[tactic(auto, using(crate::proofs::Named::found_first))]
+    pub fn first_named(&self, name: &[u8]) -> Option<u32>
+        ensures { result ≡ first_named name.now (tables_shape self.now).functions }
+    {
+        self.first.find(name)
     }
 
     /// The function with that number, the first of which is 1.

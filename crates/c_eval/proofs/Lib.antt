@@ -1,0 +1,9 @@
+pub mod Trails
+pub mod Scopes
+pub mod Sizes
+pub mod Measures
+pub mod Made
+pub mod Written
+pub mod Given
+pub mod Literals
+pub mod Declares

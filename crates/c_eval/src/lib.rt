@@ -1,0 +1,7 @@
+//! The state of a running program, with the steps that are no expression's.
+#![tactic(auto)]
+
+pub mod answers;
+pub mod layout;
+pub mod names;
+pub mod world;
