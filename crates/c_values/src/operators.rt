@@ -2,13 +2,14 @@
 
 ghost use Rattle.std.specs.Prelude.{◌≡◌, true, IfSome, option_map};
 ghost use Rattle.atac_base.specs.declared.place.IntKind.TheVariants.{Int};
-ghost use Rattle.c_arith.specs.Arith.{InRange, IsPromoted, RightFits, wrap};
+ghost use Rattle.c_arith.specs.Arith.{InRange, IsPromoted, RightFits, wrap, unary_result, binary_result};
+ghost use Rattle.c_kinds.specs.Kinds.{promote};
 ghost use Rattle.c_syntax.specs.View.{type_of};
 ghost use Rattle.c_values.specs.Constants.{unary, binary, both, either, choice, cast, address, arithmetic, unary_kind, unary_value, arith_of, is_shift, is_comparison, computing_kind, result_kind, right_operand, binary_value, of_both, truth_value, given, Holds};
 
 use crate::constants::{Constant, given, kind_of, value};
 use atac_base::place::IntKind;
-use c_arith::{ArithBinary, ArithUnary, convert};
+use c_arith::{ArithBinary, ArithFault, ArithUnary, convert};
 use c_kinds::kinds::{common, promoted};
 use c_syntax::tree::{BinaryOp, CType, UnaryOp};
 
@@ -135,6 +136,31 @@ fn binary_value(op: BinaryOp, kind: IntKind, left: i128, right: i128) -> Option<
     let left = convert(left, kind);
     let right = right_operand(op, kind, right);
     c_arith::binary(arith_of(op), kind, left, right).ok()
+}
+
+/// What the operator gives of two integers of these types (C89, 3.3.5 to 3.3.12), or its fault.
+pub fn compute(
+    op: BinaryOp,
+    left: IntKind,
+    right: IntKind,
+    a: i128,
+    b: i128,
+) -> Result<i128, ArithFault>
+    ensures { result ≡ binary_result (arith_of op) (computing_kind op left right) (wrap (computing_kind op left right) a) (right_operand op (computing_kind op left right) b) }
+{
+    let kind = computing_kind(op, left, right);
+    let a = convert(a, kind);
+    let b = right_operand(op, kind, b);
+    c_arith::binary(arith_of(op), kind, a, b)
+}
+
+/// What an operator in front of an integer of that type gives (C89, 3.3.3.3), or its fault.
+pub fn compute_one(op: ArithUnary, kind: IntKind, a: i128) -> Result<i128, ArithFault>
+    ensures { result ≡ unary_result op (promote kind) (wrap (promote kind) a) }
+{
+    let kind = promoted(kind);
+    let a = convert(a, kind);
+    c_arith::unary(op, kind, a)
 }
 
 // The right operand, which a shift takes as it is.

@@ -1,0 +1,114 @@
+-- A cell is written, and what lived lives on.
+use Rattle.std.proofs.Common.{◌≡◌, ℕ, suc, List, [], ◌∷◌, Option, Some, None, Result, Ok, Err, refl, sym, ap, ◌∙◌, subst, eq-eqb, nat_eq, if◌then◌else◌, Bool, true, false}
+use Rattle.std.specs.Prelude.{IsSome, length}
+use Rattle.std.proofs.lemmas.Bool.{eqb-true, false≢true}
+use Rattle.c_store.specs.declared.value.Value.{Value}
+use Rattle.c_store.specs.declared.value.Pointer.{Pointer}
+use Rattle.c_store.specs.declared.value.Fault.{Fault}
+use Rattle.c_store.specs.declared.value.Fault.TheVariants.{WriteLiteral, OutOfBounds}
+use Rattle.c_store.specs.Cells.{Cells, Slot, cell_of, is_inside, find, replace, with_value, element_in, element_of, write_in, write_of, IsWritten, IsLive}
+use Rattle.std.proofs.Common.{OnErr}
+use Rattle.atac_base.specs.declared.probes.Event.{Event}
+use Rattle.c_syntax.specs.declared.tree.Named.{Named}
+use Rattle.c_meaning.specs.declared.end.Flow.TheVariants.{Next}
+use Rattle.c_meaning.specs.State.{State}
+use Rattle.c_meaning.specs.Results.{Gives, then_do}
+use Rattle.c_meaning.specs.Firsts.{quiet}
+use Rattle.c_meaning.specs.Places.{whole, logs, log_def}
+use Rattle.c_meaning.specs.Declarations.{name_marks, scalar_written}
+use Rattle.c_world.specs.Steps.{told}
+use Rattle.c_world.specs.Lives.{Living}
+use Rattle.c_world.proofs.Made.{living_on}
+
+abbrev the : Slot → Option Slot → Slot
+the d None = d
+the d (Some s) = s
+
+abbrev is_there : Option Slot → Bool
+is_there None = false
+is_there (Some s) = true
+
+abbrev the_slot : Slot → Result Slot Fault → Slot
+the_slot d (Ok s) = s
+the_slot d (Err f) = d
+
+abbrev is_ok : Result Slot Fault → Bool
+is_ok (Ok s) = true
+is_ok (Err f) = false
+
+abbrev the_cells : Cells → Result Cells Fault → Cells
+the_cells d (Ok c) = c
+the_cells d (Err f) = d
+
+abbrev cells_ok : Result Cells Fault → Bool
+cells_ok (Ok c) = true
+cells_ok (Err f) = false
+
+some_first : (b : Bool) (t : Slot) (o : Option Slot) → IsSome o → IsSome (if b then Some t else o)
+some_first true t o h = refl
+some_first false t o h = h
+
+number_at : (n : ℕ) (s t : Slot) (rest : List Slot) → (find n rest ≡ Some t → t.number ≡ n) → (b : Bool) → nat_eq s.number n ≡ b → (if b then Some s else find n rest) ≡ Some t → t.number ≡ n
+number_at n s t rest on true b e = sym (ap (λ x. (the s x).number) e) ∙ eqb-true s.number n b
+number_at n s t rest on false b e = on e
+
+find_number : (n : ℕ) (live : List Slot) (t : Slot) → find n live ≡ Some t → t.number ≡ n
+find_number n [] t e = absurd (false≢true (ap is_there e))
+find_number n (s ∷ rest) t e = number_at n s t rest (find_number n rest t) (nat_eq s.number n) refl e
+
+replaced_at : (n m : ℕ) (s t : Slot) (rest : List Slot) → t.number ≡ m → (IsSome (find n rest) → IsSome (find n (replace m t rest))) → (b : Bool) → nat_eq s.number m ≡ b → (d : Bool) → nat_eq s.number n ≡ d → IsSome (if d then Some s else find n rest) → IsSome (find n (if b then t ∷ rest else s ∷ replace m t rest))
+replaced_at n m s t rest number on true b true d h = rw (eq-eqb t.number n (number ∙ sym (eqb-true s.number m b) ∙ eqb-true s.number n d)) refl
+replaced_at n m s t rest number on true b false d h = some_first (nat_eq t.number n) t (find n rest) h
+replaced_at n m s t rest number on false b true d h = rw d refl
+replaced_at n m s t rest number on false b false d h = rw d (on h)
+
+replaced : (n m : ℕ) (t : Slot) (live : List Slot) → t.number ≡ m → IsSome (find n live) → IsSome (find n (replace m t live))
+replaced n m t [] number h = h
+replaced n m t (s ∷ rest) number h = replaced_at n m s t rest number (replaced n m t rest number) (nat_eq s.number m) refl (nat_eq s.number n) refl h
+
+-- ---- the store
+
+pub record Alike (c d : Cells) : Type 0 where
+  pub most : d.most ≡ c.most
+  pub count : d.count ≡ c.count
+  pub live : (n : ℕ) → IsLive n c → IsLive n d
+
+found_at : (s t : Slot) (p : Pointer) (b : Bool) → (if b then Ok s else Err OutOfBounds) ≡ Ok t → s ≡ t
+found_at s t p true e = ap (λ x. the_slot s x) e
+found_at s t p false e = absurd (false≢true (ap is_ok e))
+
+element_number : (o : Option Slot) (p : Pointer) (t : Slot) → ((s : Slot) → o ≡ Some s → s.number ≡ p.instance) → element_in o p ≡ Ok t → t.number ≡ p.instance
+element_number None p t on e = absurd (false≢true (ap is_ok e))
+element_number (Some s) p t on e = let k : s ≡ t = found_at s t p (is_inside p (length s.cells)) e in sym (ap (λ (x : Slot). x.number) k) ∙ on s refl
+
+written_at : (c d : Cells) (s : Slot) (p : Pointer) (v : Value) → s.number ≡ p.instance → (b : Bool) → (if b then Ok (record c { live = replace p.instance (with_value s (cell_of p) v) c.live }) else Err WriteLiteral) ≡ Ok d → Alike c d
+written_at c d s p v number true e = subst (λ x. Alike c x) (ap (λ x. the_cells c x) e) (record { most = refl; count = refl; live = λ n h. replaced n p.instance (with_value s (cell_of p) v) c.live number h })
+written_at c d s p v number false e = absurd (false≢true (ap cells_ok e))
+
+written_in : (c d : Cells) (r : Result Slot Fault) (p : Pointer) (v : Value) → ((s : Slot) → r ≡ Ok s → s.number ≡ p.instance) → write_in c r p v ≡ Ok d → Alike c d
+written_in c d (Err fault) p v on e = absurd (false≢true (ap cells_ok e))
+written_in c d (Ok s) p v on e = written_at c d s p v (on s refl) s.writable e
+
+pub written : (c d : Cells) (p : Pointer) (v : Value) → write_of c p v ≡ Ok d → Alike c d
+written c d p v e = written_in c d (element_of c.live p) p v (λ s k. element_number (find p.instance c.live) p s (λ t f. find_number p.instance c.live t f) k) e
+
+pub written_living : (c d : Cells) (p : Pointer) (v : Value) (js : List ℕ) → write_of c p v ≡ Ok d → Living (suc c.count) js c → Living (suc d.count) js d
+written_living c d p v js e living =
+    let a = written c d p v e in
+    subst (λ n. Living (suc n) js d) (sym a.count) (living_on (suc c.count) js c d a.live living)
+
+pub record Kept (c d : Cells) (js : List ℕ) : Type 0 where
+  pub most : d.most ≡ c.most
+  pub count : d.count ≡ c.count
+  pub living : Living (suc d.count) js d
+
+pub either : (c d : Cells) (p : Pointer) (v : Value) (js : List ℕ) (r : Result (Unit {0}) Fault) → IsWritten r d (write_of c p v) → OnErr r (d ≡ c) → Living (suc c.count) js c → Kept c d js
+either c d p v js (Ok u) is kept living = let a = written c d p v is in record { most = a.most; count = a.count; living = written_living c d p v js is living }
+either c d p v js (Err fault) is kept living = subst (λ x. Kept c x js) (sym kept) (record { most = refl; count = refl; living = living })
+
+-- ---- the cell of a scalar
+
+pub scalar_told : (x : Option Named) (j : ℕ) (q : Pointer) (v : Value) (s : State) (d : Cells) (a b : Bool) (l : List Event) → q ≡ whole j 1 → write_of s.store q v ≡ Ok d → a ≡ b → told a v (record s { store = d; log = l }) ≡ logs (log_def (whole j 1)) (name_marks x) (record s { store = d }) (λ s. Gives v s) → scalar_written x (quiet 0) j v s ≡ then_do (told b v (record s { store = d; log = l })) (λ v s. Gives Next s)
+scalar_told x j q v s d a b l at e same tells =
+    let k : write_of s.store (whole j 1) v ≡ Ok d = ap (λ q. write_of s.store q v) (sym at) ∙ e in
+    rw k (ap (λ r. then_do r (λ v s. Gives Next s)) (sym tells ∙ ap (λ b. told b v (record s { store = d; log = l })) same))

@@ -1,0 +1,42 @@
+ghost use Rattle.std.specs.Prelude.{◌≡◌, ◌≤◌, suc};
+ghost use Rattle.c_meaning.specs.State.{activation_in};
+ghost use Rattle.c_tree.specs.Tables.{tables_shape};
+ghost use Rattle.c_world.specs.Sizes.{IsMeasured};
+ghost use Rattle.c_world.specs.Lives.{Living, Living-prop, call_instances};
+
+mod beginning;
+mod declaring;
+mod entering;
+mod filling;
+mod scopes;
+mod writing;
+
+use crate::names::Names;
+use c_store::store::Store;
+use c_syntax::text::Text;
+use c_tree::program::Program;
+use std::alloc::Global;
+
+/// A run of a program: its store, what names stand for in it, what is left of the input, the output, the turns that are
+/// left, the numbers of the last activation and of the last instance, and how many cells each variable has.
+#[derive(Drop)]
+pub struct World<'p> {
+    alloc: Global,
+    program: &'p Program,
+    store: Store,
+    names: Names,
+    input: &'p [u8],
+    output: Text,
+    limit: u64,
+    turns: u64,
+    last: u64,
+    made: u64,
+    sizes: Vec<u32>,
+    ghost living: { Living (suc store.count) (call_instances names.calls) store } by { Living-prop (suc store.count) (call_instances names.calls) store },
+    ghost counted: { made ≡ store.count },
+    ghost most: { store.most ≡ 1048576 },
+    ghost active: { activation_in names.calls ≤ last },
+    ghost within: { turns ≤ limit },
+    ghost limited: { limit ≤ 1000000000 },
+    ghost measured: { IsMeasured (tables_shape program.now.tables) sizes.items },
+}

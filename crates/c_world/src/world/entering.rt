@@ -1,0 +1,165 @@
+ghost use Rattle.std.specs.Prelude.{◌≡◌, ◌++◌, ◌<◌, List, length, IfOk, OnOk, None};
+ghost use Rattle.atac_base.specs.declared.probes.Event.{Event};
+ghost use Rattle.c_syntax.specs.View.{decl_form_shape, params_shape, param_shape, param_list};
+ghost use Rattle.c_meaning.specs.Firsts.{quiet};
+ghost use Rattle.c_meaning.specs.Counts.{decl_variables};
+ghost use Rattle.c_meaning.specs.Calls.{Routine, given, given_params, given_all, activated, entered};
+ghost use Rattle.c_world.specs.Names.{IsActive};
+ghost use Rattle.c_world.specs.Steps.{given_one};
+ghost use Rattle.c_world.specs.World.{state_of, tables_of, answered, Same};
+
+use super::World;
+use crate::answers::Placed;
+use atac_base::place::NoMemory;
+use atac_base::probes::Probes;
+use c_meaning::end::Stop;
+use c_store::value::{Fault, Value};
+use c_syntax::tree::{DeclForm, Param, Params};
+
+impl<'p> World<'p> {
+    /// Begins a call of the function with this parameter list, behind so many variables of the program: the next activation
+    /// is active, its parameters are made and the arguments, already converted, are written. Depth or Room comes exactly
+    /// where the definition stops there.
+    pub fn enter<P: Probes>(
+        &mut self,
+        function: u32,
+        params: &DeclForm,
+        before: u32,
+        args: &[Value],
+        probes: &mut P,
+    ) -> Result<Option<Stop>, NoMemory>
+        ensures done { IfOk result (λ r. (h l : List Event) → P.stands_for probes.old (h ++ l) → (l' : List Event) × P.stands_for probes.new (h ++ l') × ((f : Routine) → f.params ≡ decl_form_shape params.now → f.first ≡ quiet before → entered (tables_of self.old) function f args.now (state_of self.old l) ≡ answered r (state_of self.new l'))) }
+        ensures same { Same self.old self.new }
+    {
+        if self.names.depth() >= 4000 {
+            return Ok(Some(Stop::Depth));
+        }
+        self.activate(function)?;
+        let stopped = self.give_form(params, before, args, probes)?;
+        Ok(stopped)
+    }
+
+    // The next activation is active.
+    fn activate(&mut self, function: u32) -> Result<(), NoMemory>
+        requires { length self.old.names.calls < 4000 }
+        ensures activated { OnOk result ((h : List Event) → state_of self.new h ≡ activated function (state_of self.old h)) }
+        ensures same { Same self.old self.new }
+        ensures active { OnOk result (IsActive self.new.names.calls) }
+    {
+        if self.last == u64::MAX {
+            return Err(NoMemory);
+        }
+        self.names.open_call(function, self.last + 1)?;
+        self.last += 1;
+        Ok(())
+    }
+
+    // Gives the parameters of a declarator their arguments.
+    fn give_form<P: Probes>(
+        &mut self,
+        form: &DeclForm,
+        before: u32,
+        args: &[Value],
+        probes: &mut P,
+    ) -> Result<Option<Stop>, NoMemory>
+        requires { IsActive self.old.names.calls }
+        ensures done { IfOk result (λ r. (h l : List Event) → P.stands_for probes.old (h ++ l) → (l' : List Event) × P.stands_for probes.new (h ++ l') × (given_all (tables_of self.old) (decl_form_shape form.now) (quiet before) args.now (state_of self.old l) ≡ answered r (state_of self.new l'))) }
+        ensures same { Same self.old self.new }
+    {
+        match form {
+            DeclForm::Function(params) => {
+                let stopped = self.give_params(params, before, args, probes)?;
+                Ok(stopped)
+            }
+            DeclForm::Arrays(_) => Ok(Some(Stop::Fault(Fault::NoResult))),
+        }
+    }
+
+    fn give_params<P: Probes>(
+        &mut self,
+        params: &Params,
+        before: u32,
+        args: &[Value],
+        probes: &mut P,
+    ) -> Result<Option<Stop>, NoMemory>
+        requires { IsActive self.old.names.calls }
+        ensures done { IfOk result (λ r. (h l : List Event) → P.stands_for probes.old (h ++ l) → (l' : List Event) × P.stands_for probes.new (h ++ l') × (given_params (tables_of self.old) (params_shape params.now) (quiet before) args.now (state_of self.old l) ≡ answered r (state_of self.new l'))) }
+        ensures same { Same self.old self.new }
+    {
+        match params {
+            Params::List(list) => {
+                let stopped = self.give_all(list, before, args, probes)?;
+                Ok(stopped)
+            }
+            Params::Empty | Params::Void => {
+                if args.is_empty() {
+                    Ok(None)
+                } else {
+                    Ok(Some(Stop::Fault(Fault::NoResult)))
+                }
+            }
+        }
+    }
+
+    fn give_all<P: Probes>(
+        &mut self,
+        params: &[Param],
+        before: u32,
+        args: &[Value],
+        probes: &mut P,
+    ) -> Result<Option<Stop>, NoMemory>
+        requires { IsActive self.old.names.calls }
+        ensures done { IfOk result (λ r. (h l : List Event) → P.stands_for probes.old (h ++ l) → (l' : List Event) × P.stands_for probes.new (h ++ l') × (given (tables_of self.old) (param_list params.now) (quiet before) args.now (state_of self.old l) ≡ answered r (state_of self.new l'))) }
+        ensures same { Same self.old self.new }
+    {
+        let mut params = params;
+        let mut args = args;
+        let mut before = before;
+        while let Some((param, others)) = params.split_first() {
+            let Some((value, rest)) = args.split_first() else {
+                return Ok(Some(Stop::Fault(Fault::NoResult)));
+            };
+            let stopped = self.give(param, before, *value, probes)?;
+            if stopped.is_some() {
+                return Ok(stopped);
+            }
+            params = others;
+            args = rest;
+            before += 1;
+        }
+        if args.is_empty() {
+            Ok(None)
+        } else {
+            Ok(Some(Stop::Fault(Fault::NoResult)))
+        }
+    }
+
+    // Makes the instance of the parameter behind so many variables, and writes its argument.
+    fn give<P: Probes>(
+        &mut self,
+        param: &Param,
+        before: u32,
+        value: Value,
+        probes: &mut P,
+    ) -> Result<Option<Stop>, NoMemory>
+        requires { IsActive self.old.names.calls }
+        ensures done { IfOk result (λ r. (h l : List Event) → P.stands_for probes.old (h ++ l) → (l' : List Event) × P.stands_for probes.new (h ++ l') × (given_one (tables_of self.old) (param_shape param.now) before value (state_of self.old l) ≡ answered r (state_of self.new l'))) }
+        ensures same { Same self.old self.new }
+        ensures active { OnOk result (IsActive self.new.names.calls) }
+        ensures one { IfOk result (λ r. r ≡ None → (decl_variables (param_shape param.now) ≡ 1) × (before < 4294967295)) }
+    {
+        if before >= self.program.tables().variables() {
+            return Ok(Some(Stop::Fault(Fault::NoResult)));
+        }
+        match &param.name.form {
+            DeclForm::Function(_) => Ok(Some(Stop::Fault(Fault::NoResult))),
+            DeclForm::Arrays(_) => match self.place_variable(before + 1)? {
+                Placed::Stopped(why) => Ok(Some(why)),
+                Placed::At(instance) => {
+                    let stopped = self.write_scalar(&param.name.name, instance, value, probes)?;
+                    Ok(stopped)
+                }
+            },
+        }
+    }
+}

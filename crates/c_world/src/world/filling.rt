@@ -1,0 +1,55 @@
+ghost use Rattle.std.specs.Prelude.{◌≡◌, ◌++◌, List, IfOk, OnErr};
+ghost use Rattle.atac_base.specs.declared.probes.Event.{Event};
+ghost use Rattle.c_syntax.specs.View.{type_of};
+ghost use Rattle.c_meaning.specs.Operators.{converted};
+ghost use Rattle.c_world.specs.Steps.{filled_one};
+ghost use Rattle.c_world.specs.World.{state_of, tables_of, answered, Same};
+
+use super::World;
+use atac_base::place::NoMemory;
+use atac_base::probes::Probes;
+use c_arith::convert;
+use c_meaning::end::Stop;
+use c_store::value::{Fault, Value};
+use c_syntax::tree::{CType, Named};
+
+impl<'p> World<'p> {
+    /// Writes the value of an initialiser, converted to the variable's type (C89, 3.5.7), into the variable's cell, and
+    /// tells the probe round its declared name. After an `Err` the probes stand for what they stood for.
+    pub fn fill<P: Probes>(
+        &mut self,
+        variable: u32,
+        name: &Option<Named>,
+        value: Value,
+        probes: &mut P,
+    ) -> Result<Option<Stop>, NoMemory>
+        ensures done { IfOk result (λ r. (h l : List Event) → P.stands_for probes.old (h ++ l) → (l' : List Event) × P.stands_for probes.new (h ++ l') × (filled_one (tables_of self.old) variable name.now value (state_of self.old l) ≡ answered r (state_of self.new l'))) }
+        ensures kept { OnErr result ((h : List Event) → P.stands_for probes.old h → P.stands_for probes.new h) }
+        ensures same { Same self.old self.new }
+        ensures names { self.new.names ≡ self.old.names }
+    {
+        if variable == 0 || variable > self.program.tables().variables() {
+            return Ok(Some(Stop::Fault(Fault::NoResult)));
+        }
+        match self.names.instance(variable) {
+            None => Ok(Some(Stop::Fault(Fault::NoResult))),
+            Some(instance) => {
+                let value = converted(&self.program.tables().variable(variable).kind, value);
+                let stopped = self.write_scalar(name, instance, value, probes)?;
+                Ok(stopped)
+            }
+        }
+    }
+}
+
+/// The value in the type: an integer modulo 2 to its width (C89, 3.2.1.2), a null constant as a null pointer (3.2.2.3).
+#[inline(always)]
+pub fn converted(kind: &CType, value: Value) -> Value
+    ensures { result ≡ converted (type_of kind.now) value }
+{
+    match (kind, value) {
+        (CType::Int(kind), Value::Int(number)) => Value::Int(convert(number, *kind)),
+        (CType::Pointer(_), Value::Int(_)) => Value::Null,
+        _ => value,
+    }
+}
