@@ -1,5 +1,5 @@
 -- What is known before a run: case constants (C89, 3.6.4.2), and what a constant initialiser gives (3.4, 3.5.7).
-use Rattle.std.specs.Prelude.{ℕ, suc, ◌+◌, ◌++◌, ℤ, pos, List, [], ◌∷◌, length, map, take, replicate, unsigned_abs, Option, Some, None, option_map, if◌then◌else◌}
+use Rattle.std.specs.Prelude.{ℕ, suc, ◌+◌, ◌++◌, ℤ, pos, List, [], ◌∷◌, length, map, take, replicate, nat_le, nat_lt, Option, Some, None, option_map, if◌then◌else◌}
 use Rattle.std.specs.Ordering.{int_eq}
 use Rattle.atac_base.specs.declared.place.IntKind.{IntKind}
 use Rattle.atac_base.specs.declared.place.IntKind.TheVariants as kinds
@@ -22,7 +22,7 @@ use Rattle.c_items.specs.Tests.{number_constant, noted_constant, cast_to, joined
 use Rattle.c_meaning.specs.State.{Bound, found_in}
 use Rattle.c_meaning.specs.Layout.{Part, cells, zeros, part_in}
 use Rattle.c_meaning.specs.Operators.{converted}
-use Rattle.c_meaning.specs.Places.{whole, first_cell}
+use Rattle.c_meaning.specs.Places.{room, whole, first_cell, has_part}
 
 -- ---- constant expressions
 
@@ -80,18 +80,27 @@ kind_noted bare = nothing
 abbrev pub type_at : NodeShape → TypeOf
 type_at (node p o n f) = kind_noted n
 
+abbrev pub object_in : ℕ → Option ℕ → Option Pointer
+object_in n None = None
+object_in n (Some j) = if nat_le n room then Some (whole j n) else None
+
 abbrev pub variable_in : TablesShape → List Bound → NoteShape → Option Pointer
-variable_in t b (typed k (Some m)) = option_map (λ j. whole j (cells t k)) (found_in m b)
+variable_in t b (typed k (Some m)) = object_in (cells t k) (found_in m b)
 variable_in t b n = None
 
--- the element of an array at that place
+-- one of so many elements of that size, which lie in the element at that place
+abbrev pub part_of : Pointer → ℕ → ℕ → ℕ → ℕ → Option Pointer
+part_of q offset n size index =
+    if has_part q offset n size then Some (record { instance = q.instance; base = cell_of q + offset; length = n; size = size; index = index }) else None
+
+-- the element of an array at that place; its index is below the length
 abbrev pub element_in : TablesShape → TypeOf → Constant → Option Pointer → Option Pointer
-element_in t (array k n) (Known j v) (Some q) = Some (record { instance = q.instance; base = cell_of q; length = n; size = cells t k; index = unsigned_abs v })
+element_in t (array k n) (Known j (pos v)) (Some q) = if nat_lt v n then part_of q 0 n (cells t k) v else None
 element_in t k c q = None
 
 -- the field of a structure at that place
 abbrev pub field_in : TablesShape → Option Part → Option Pointer → Option Pointer
-field_in t (Some part) (Some q) = Some (record { instance = q.instance; base = cell_of q + part.offset; length = 1; size = cells t part.kind; index = 0 })
+field_in t (Some part) (Some q) = part_of q part.offset 1 (cells t part.kind) 0
 field_in t part q = None
 
 -- a file-scope variable, or a part of one, where these are the variables of file scope
@@ -121,7 +130,7 @@ named_value t b (typed (array k m) n) = option_map At (element_in t (array k m) 
 named_value t b n = integer_in (noted_constant n No)
 
 abbrev pub literal_in : NoteShape → Text → Option Value
-literal_in (typed k (Some j)) x = Some (At (first_cell j (length x + 1)))
+literal_in (typed k (Some j)) x = if nat_lt (length x) room then Some (At (first_cell j (length x + 1))) else None
 literal_in n x = None
 
 abbrev mutual

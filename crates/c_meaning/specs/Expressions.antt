@@ -1,12 +1,12 @@
 -- What expressions give (C89, 3.3), from left to right. Each but parentheses and probes takes a turn as it begins.
-use Rattle.std.specs.Prelude.{ℕ, ◌+◌, pos, ◌++◌, List, [], ◌∷◌, length, drop, Bool, true, false, Option, Some, None, option_map, if◌then◌else◌}
+use Rattle.std.specs.Prelude.{ℕ, ◌+◌, nat_lt, pos, ◌++◌, List, [], ◌∷◌, length, drop, Bool, true, false, Option, Some, None, option_map, if◌then◌else◌}
 use Rattle.atac_base.specs.declared.place.Pos.{Pos}
 use Rattle.atac_base.specs.declared.place.IntKind.TheVariants.{Char}
 use Rattle.atac_base.specs.declared.probes.Event.TheVariants.{Block, Test}
 use Rattle.c_arith.specs.Arith.{wrap, truth}
 use Rattle.c_syntax.specs.declared.text.Text.{Text}
 use Rattle.c_syntax.specs.declared.tree.UnaryOp.TheVariants as front
-use Rattle.c_syntax.specs.Shape.{TypeOf, structure, nothing, NoteShape, typed, known, Leaf, number, char, str, name, Step, unary, before, size_of, plain, and, or, assign, comma, dot, arrow, NodeShape, node, ExprShape, leaf, paren, call, prefix, size_of_type, cast, suffix, two, choose, probe, index, field, behind, simple, select, block, test, used, def, NodeShapes, no_nodes, more_nodes}
+use Rattle.c_syntax.specs.Shape.{TypeOf, nothing, NoteShape, typed, known, Leaf, number, char, str, name, Step, unary, before, size_of, plain, and, or, assign, comma, dot, arrow, NodeShape, node, ExprShape, leaf, paren, call, prefix, size_of_type, cast, suffix, two, choose, probe, index, field, behind, simple, select, block, test, used, def, NodeShapes, no_nodes, more_nodes}
 use Rattle.c_kinds.specs.Kinds.{decay}
 use Rattle.c_values.specs.declared.numbers.Number.{Number}
 use Rattle.c_values.specs.Numbers.{number_of}
@@ -18,12 +18,11 @@ use Rattle.c_items.specs.declared.around.Taken.{Taken}
 use Rattle.c_items.specs.declared.around.Taken.TheVariants.{Read, Written, Changed, Addressed}
 use Rattle.c_items.specs.Tests.{choosing}
 use Rattle.c_meaning.specs.State.{tells, State, logged, activation}
-use Rattle.c_meaning.specs.Results.{Got, Gives, then_do, turn, turns, untyped, settled, needed}
-use Rattle.c_meaning.specs.Layout.{cells}
+use Rattle.c_meaning.specs.Results.{Got, Gives, then_do, turn, untyped, settled, needed}
 use Rattle.c_meaning.specs.Operators.{converted, is_true, operated, stepped_by_one, element_pointer, of_one, target, pointed}
 use Rattle.c_meaning.specs.Firsts as firsts
 use Rattle.c_meaning.specs.Firsts.{First, within, at_test, behind_test, at_arm, behind_arm, noted_block, noted_test, outcome}
-use Rattle.c_meaning.specs.Places.{first_cell, variable_place, field_place, logs, marks, loaded, stored, fetched, copied}
+use Rattle.c_meaning.specs.Places.{room, first_cell, variable_place, field_place, logs, marks, loaded, stored, fetched}
 use Rattle.c_meaning.specs.Constants.{select_constants, chosen_among, kind_noted, type_at}
 use Rattle.c_meaning.specs.Knot.{Knot}
 use Rattle.c_meaning.specs.Builtins.{called, params_of, as_parameter}
@@ -55,7 +54,7 @@ number_value None s = untyped s
 number_value (Some x) s = gives (Int (pos x.value)) s
 
 abbrev pub literal_value : NoteShape → Text → State → Got (Option Value)
-literal_value (typed k (Some j)) x s = gives (At (first_cell j (length x + 1))) s
+literal_value (typed k (Some j)) x s = if nat_lt (length x) room then gives (At (first_cell j (length x + 1))) s else untyped s
 literal_value n x s = untyped s
 
 -- an enumeration constant, and a sizeof, has its value in its note
@@ -96,10 +95,9 @@ last_test a m i s = arm a i s (λ j s. then_do (tested a m j s) (λ x. gives (In
 abbrev pub written : TypeOf → List Text → First → Pointer → Value → State → Got (Option Value)
 written k xs i q v s = then_do (stored tells xs i q (converted k v) s) gives
 
--- the right side of `=`, and the write; a structure's cells are copied, each for a turn
-abbrev pub assigned : TablesShape → TypeOf → List Text → List Text → Meaning → First → First → Pointer → State → Got (Option Value)
-assigned t (structure n) xs ys m i j q s = then_do (m.place Read j s) (λ r s. turns (cells t (structure n)) s (copied xs ys i j q r))
-assigned t k xs ys m i j q s = then_do (needed (m.value j s)) (λ v. written k xs i q v)
+-- the right side of `=`, and the write
+abbrev pub assigned : TypeOf → List Text → Meaning → First → First → Pointer → State → Got (Option Value)
+assigned k xs m i j q s = then_do (needed (m.value j s)) (λ v. written k xs i q v)
 
 -- the value before a step, or the one behind it
 abbrev pub stepped_from : Bool → Value → Option Value → State → Got (Option Value)
@@ -161,7 +159,7 @@ abbrev mutual
   form_meaning t k p n (two or a b) = as_value (λ i s.
       then_do (tested a (meaning t k a) i s) (λ x s. if x then gives (Int (pos 1)) s else last_test b (meaning t k b) (behind_test a i) s))
   form_meaning t k p n (two (assign None) a b) = as_value (λ i s.
-      then_do ((meaning t k a).place Written i s) (assigned t (type_at a) (marks def a) (marks used b) (meaning t k b) i (firsts.behind Written a i)))
+      then_do ((meaning t k a).place Written i s) (assigned (type_at a) (marks def a) (meaning t k b) i (firsts.behind Written a i)))
   form_meaning t k p n (two (assign (Some u)) a b) = as_value (λ i s.
       then_do ((meaning t k a).place Changed i s) (λ q s.
       then_do (loaded (marks used a) i q s) (λ x s.

@@ -1,5 +1,5 @@
 -- What is done with places (C89, 3.2.2.1): variables, parts, reading and writing; and the probes round them.
-use Rattle.std.specs.Prelude.{ℕ, zero, suc, ◌+◌, ◌++◌, List, [], ◌∷◌, length, take, drop, Option, Some, None, Result, Ok, Err, if◌then◌else◌}
+use Rattle.std.specs.Prelude.{ℕ, suc, ◌+◌, ◌*◌, nat_le, ◌&&◌, Bool, ◌++◌, List, [], ◌∷◌, Option, Some, None, if◌then◌else◌}
 use Rattle.atac_base.specs.declared.probes.Event.{Event}
 use Rattle.atac_base.specs.declared.probes.Event.TheVariants.{Def, Use}
 use Rattle.c_syntax.specs.declared.text.Text.{Text}
@@ -8,11 +8,9 @@ use Rattle.c_values.specs.Probes.{probe_number_of}
 use Rattle.c_store.specs.declared.value.Value.{Value}
 use Rattle.c_store.specs.declared.value.Value.TheVariants.{At}
 use Rattle.c_store.specs.declared.value.Pointer.{Pointer}
-use Rattle.c_store.specs.declared.value.Fault.{Fault}
-use Rattle.c_store.specs.declared.value.Fault.TheVariants.{WriteLiteral}
-use Rattle.c_store.specs.Cells.{Cells, Slot, cell_of, read_of, write_of, replace, selected, element_of}
+use Rattle.c_store.specs.Cells.{read_of, write_of, selected}
 use Rattle.c_tree.specs.Tables.{TablesShape}
-use Rattle.c_meaning.specs.State.{Act, tells, repeats, State, logged, activation, instance_of}
+use Rattle.c_meaning.specs.State.{Act, tells, State, logged, activation, instance_of}
 use Rattle.c_meaning.specs.Results.{Got, Gives, then_do, untyped, settled, present}
 use Rattle.c_meaning.specs.Layout.{Part, cells, part_in}
 use Rattle.c_meaning.specs.Firsts.{First, cell_at, noted_use, noted_def}
@@ -27,17 +25,32 @@ whole j size = record { instance = j; base = 0; length = 1; size = size; index =
 abbrev pub first_cell : ℕ → ℕ → Pointer
 first_cell j n = record { instance = j; base = 0; length = n; size = 1; index = 0 }
 
+-- no more cells live at once, so no object has more
+abbrev pub room : ℕ
+room = 1048576
+
+abbrev pub object_at : ℕ → ℕ → State → Got Pointer
+object_at n j s = if nat_le n room then Gives (whole j n) s else untyped s
+
 -- the variable of that number and type
 abbrev pub variable_place : TablesShape → TypeOf → ℕ → State → Got Pointer
-variable_place t k n s = then_do (present (instance_of n s) s) (λ j s. Gives (whole j (cells t k)) s)
+variable_place t k n s = then_do (present (instance_of n s) s) (object_at (cells t k))
+
+-- so many elements of that size, from the offset on, lie in the element at that place
+abbrev pub has_part : Pointer → ℕ → ℕ → ℕ → Bool
+has_part q offset n size = nat_le size room && nat_le (offset + n * size) q.size
+
+-- a pointer to the first of them
+abbrev pub selected_place : Pointer → ℕ → ℕ → ℕ → State → Got Pointer
+selected_place q offset n size s = if has_part q offset n size then settled (selected s.store q offset n size) s else untyped s
 
 -- the first element of an array at that place
 abbrev pub first_element : TablesShape → TypeOf → ℕ → Pointer → State → Got Pointer
-first_element t k n q s = settled (selected s.store q 0 n (cells t k)) s
+first_element t k n q s = selected_place q 0 n (cells t k) s
 
 abbrev pub part_place : TablesShape → Option Part → Pointer → State → Got Pointer
 part_place t None q s = untyped s
-part_place t (Some part) q s = settled (selected s.store q part.offset 1 (cells t part.kind)) s
+part_place t (Some part) q s = selected_place q part.offset 1 (cells t part.kind) s
 
 -- the field of that name in a structure of that type
 abbrev pub field_place : TablesShape → Text → TypeOf → Pointer → State → Got Pointer
@@ -97,39 +110,3 @@ fetched t (typed (array k m) n) xs i q s = then_do (first_element t k m q s) (λ
 fetched t (typed (structure m) n) xs i q s = Gives None s
 fetched t (typed nothing n) xs i q s = Gives None s
 fetched t n xs i q s = untyped s
-
--- ---- the cells of an element
-
--- something is told of each of so many cells in order
-abbrev pub each_cell : (Pointer → State → State) → ℕ → Pointer → State → State
-each_cell tell zero q s = s
-each_cell tell (suc n) q s = each_cell tell n (next_cell q) (tell q s)
-
--- the first by an event, the others by further ones
-abbrev pub told_of_cells : ((Event → Act) → Pointer → State → State) → ℕ → Pointer → State → State
-told_of_cells tell zero q s = s
-told_of_cells tell (suc n) q s = each_cell (tell repeats) n (next_cell q) (tell tells q s)
-
--- to the first cell of the element at that place
-abbrev pub cells_from : Pointer → Pointer
-cells_from q = record { instance = q.instance; base = cell_of q; length = q.size; size = 1; index = 0 }
-
-abbrev pub element_cells : Pointer → Slot → List (Option Value)
-element_cells q slot = take q.size (drop (cell_of q) slot.cells)
-
--- other cells in the place of those from an index on
-abbrev pub with_cells : ℕ → List (Option Value) → Slot → Slot
-with_cells at vs slot = record slot { cells = take at slot.cells ++ vs ++ drop (at + length vs) slot.cells }
-
-abbrev pub put_in : Cells → Pointer → List (Option Value) → Slot → Result Cells Fault
-put_in c q vs slot = if slot.writable then Ok (record c { live = replace q.instance (with_cells (cell_of q) vs slot) c.live }) else Err WriteLiteral
-
--- the cells at the second place are put into the first one's, those without value too
-abbrev pub copied : List Text → List Text → First → First → Pointer → Pointer → State → Got (Option Value)
-copied xs ys i j q r s =
-    then_do (settled (element_of s.store.live r) s) (λ from s.
-    logs (λ k s. each_cell (λ p s. log_use p k s) r.size (cells_from r) s) ys (told_of_cells (λ way. noted_use way j) r.size (cells_from r) s) (λ s.
-    then_do (settled (element_of s.store.live q) s) (λ to s.
-    then_do (settled (put_in s.store q (element_cells r from) to) s) (λ c s.
-    logs (λ k s. each_cell (λ p s. log_def p k s) q.size (cells_from q) s) xs (told_of_cells (λ way. noted_def way i) q.size (cells_from q) (record s { store = c })) (λ s.
-    Gives None s)))))

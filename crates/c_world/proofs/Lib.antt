@@ -1,7 +1,5 @@
 pub mod Trails
 pub mod Scopes
-pub mod Sizes
-pub mod Measures
 pub mod Made
 pub mod Written
 pub mod Given

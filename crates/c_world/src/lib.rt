@@ -2,6 +2,5 @@
 #![tactic(auto)]
 
 pub mod answers;
-pub mod layout;
 pub mod names;
 pub mod world;

@@ -1,7 +1,7 @@
 ghost use Rattle.std.specs.Prelude.{◌≡◌, ◌≤◌, suc};
 ghost use Rattle.c_meaning.specs.State.{activation_in};
 ghost use Rattle.c_tree.specs.Tables.{tables_shape};
-ghost use Rattle.c_world.specs.Sizes.{IsMeasured};
+ghost use Rattle.c_compute.specs.Sizes.{IsMeasured};
 ghost use Rattle.c_world.specs.Lives.{Living, Living-prop, call_instances};
 
 mod beginning;

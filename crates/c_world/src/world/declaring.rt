@@ -12,7 +12,7 @@ ghost use Rattle.c_world.specs.World.{state_of, tables_of, answered, Same};
 
 use super::World;
 use crate::answers::Placed;
-use crate::layout::variable_cells;
+use c_compute::layout::variable_cells;
 use atac_base::place::NoMemory;
 use c_meaning::end::Stop;
 use c_store::value::{Fault, MakeErr};

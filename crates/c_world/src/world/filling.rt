@@ -1,17 +1,15 @@
 ghost use Rattle.std.specs.Prelude.{◌≡◌, ◌++◌, List, IfOk, OnErr};
 ghost use Rattle.atac_base.specs.declared.probes.Event.{Event};
-ghost use Rattle.c_syntax.specs.View.{type_of};
-ghost use Rattle.c_meaning.specs.Operators.{converted};
 ghost use Rattle.c_world.specs.Steps.{filled_one};
 ghost use Rattle.c_world.specs.World.{state_of, tables_of, answered, Same};
 
 use super::World;
 use atac_base::place::NoMemory;
 use atac_base::probes::Probes;
-use c_arith::convert;
+use c_compute::operators::converted;
 use c_meaning::end::Stop;
 use c_store::value::{Fault, Value};
-use c_syntax::tree::{CType, Named};
+use c_syntax::tree::Named;
 
 impl<'p> World<'p> {
     /// Writes the value of an initialiser, converted to the variable's type (C89, 3.5.7), into the variable's cell, and
@@ -39,17 +37,5 @@ impl<'p> World<'p> {
                 Ok(stopped)
             }
         }
-    }
-}
-
-/// The value in the type: an integer modulo 2 to its width (C89, 3.2.1.2), a null constant as a null pointer (3.2.2.3).
-#[inline(always)]
-pub fn converted(kind: &CType, value: Value) -> Value
-    ensures { result ≡ converted (type_of kind.now) value }
-{
-    match (kind, value) {
-        (CType::Int(kind), Value::Int(number)) => Value::Int(convert(number, *kind)),
-        (CType::Pointer(_), Value::Int(_)) => Value::Null,
-        _ => value,
     }
 }

@@ -7,7 +7,7 @@ use Rattle.c_syntax.specs.Shape.{TypeOf}
 use Rattle.c_tree.specs.Tables.{VariableShape, TablesShape}
 use Rattle.c_tree.specs.State.{row}
 use Rattle.c_meaning.specs.Layout.{cells, kind_in, variable_kind}
-use Rattle.c_world.specs.Sizes.{kept, IsMeasured}
+use Rattle.c_compute.specs.Sizes.{kept, IsMeasured}
 
 longer : (t : List ℕ) (v : ℕ) → get_or (t ++ 0 ∷ []) v 0 ≡ get_or t v 0
 longer [] zero = refl

@@ -1,7 +1,7 @@
 use Rattle.std.proofs.Common.{◌≡◌, ◌+◌, ◌*◌, ◌≤◌, drop, map}
 use Rattle.c_tree.specs.Tables.{tables_shape, field_shape}
-use Rattle.c_world.specs.Sizes.{field_count, scalar_count, kept}
-use Rattle.c_world.proofs.layout.+counts.Given as goal
+use Rattle.c_compute.specs.Sizes.{field_count, scalar_count, kept}
+use Rattle.c_compute.proofs.layout.+counts.Given as goal
 
 abbrev pub decreases-scalar_count : goal.decreases-scalar_count
 decreases-scalar_count a = 4 * a.depth

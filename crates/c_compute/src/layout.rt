@@ -6,7 +6,7 @@ ghost use Rattle.c_syntax.specs.View.{type_of};
 ghost use Rattle.c_tree.specs.State.{row, fields_in};
 ghost use Rattle.c_tree.specs.Tables.{TablesShape, tables_shape, field_shape};
 ghost use Rattle.c_meaning.specs.Layout.{cells, variable_kind};
-ghost use Rattle.c_world.specs.Sizes.{element, elements, element_count, field_count, scalar_count, kept, IsMeasured};
+ghost use Rattle.c_compute.specs.Sizes.{element, elements, element_count, field_count, scalar_count, kept, IsMeasured};
 
 use atac_base::place::NoMemory;
 use c_syntax::tree::CType;

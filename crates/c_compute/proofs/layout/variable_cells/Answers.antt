@@ -1,6 +1,6 @@
 use Rattle.c_tree.specs.Tables.{tables_shape, variable_shape}
-use Rattle.c_world.proofs.Measures.{measured_row, measured_set}
-use Rattle.c_world.proofs.layout.variable_cells.Goals as goal
+use Rattle.c_compute.proofs.Measures.{measured_row, measured_set}
+use Rattle.c_compute.proofs.layout.variable_cells.Goals as goal
 
 pub returns-in_err-reach_size-clause-measured : goal.returns-in_err-reach_size-clause-measured
 returns-in_err-reach_size-clause-measured c = c.reach_size.ensures.measured (tables_shape c.args.tables.now) c.requires.measured

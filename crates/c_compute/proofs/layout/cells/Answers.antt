@@ -1,8 +1,8 @@
 use Rattle.std.proofs.Common.{◌≡◌, ◌+◌, suc, length, arith}
 use Rattle.c_syntax.specs.View.{type_of}
 use Rattle.c_tree.specs.Tables.{tables_shape}
-use Rattle.c_world.proofs.Sizes.{cells_counted}
-use Rattle.c_world.proofs.layout.cells.Goals as goal
+use Rattle.c_compute.proofs.Sizes.{cells_counted}
+use Rattle.c_compute.proofs.layout.cells.Goals as goal
 
 pub returns : goal.returns
 returns c =

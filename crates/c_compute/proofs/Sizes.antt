@@ -7,7 +7,7 @@ use Rattle.c_syntax.specs.Shape.{TypeOf, int, pointer, array, structure, nothing
 use Rattle.c_tree.specs.Tables.{StructShape, FieldShape, TablesShape}
 use Rattle.c_tree.specs.State.{row, fields_in}
 use Rattle.c_meaning.specs.Layout.{field_scalars, type_scalars, scalars_to, cells}
-use Rattle.c_world.specs.Sizes.{element, elements, field_count, element_count, scalar_count, kept}
+use Rattle.c_compute.specs.Sizes.{element, elements, field_count, element_count, scalar_count, kept}
 
 repeat_length : {A : Type 0} (n : ℕ) (xs : List A) → length (repeat n xs) ≡ n * length xs
 repeat_length zero xs = grind arith
