@@ -7,10 +7,10 @@ use Rattle.c_values.specs.Probes.{probe_number_of}
 use Rattle.c_store.specs.declared.value.Value.{Value}
 use Rattle.c_store.specs.declared.value.Pointer.{Pointer}
 use Rattle.c_store.specs.declared.value.Fault.{Fault}
-use Rattle.c_meaning.specs.State.{Act, tells, repeats, State}
+use Rattle.c_meaning.specs.State.{Act, tells, State}
 use Rattle.c_meaning.specs.Results.{Got, Gives, Stops, then_do, turn_of, turn, turns, settled, present, needed}
 use Rattle.c_meaning.specs.Firsts.{First, quiet, heard, noted_block, noted_use, noted_def}
-use Rattle.c_meaning.specs.Places.{logs_one, logs, each_cell, told_of_cells, next_cell}
+use Rattle.c_meaning.specs.Places.{logs_one, logs}
 
 -- fewer than n turns are left, or the run is over
 abbrev pub Left : {A : Type 0} → ℕ → Got A → Type 0
@@ -87,10 +87,6 @@ logs_alike n m log (x ∷ xs) s g h keeps lt go = one_alike n m log (probe_numbe
 pub logs_left : {A : Type 0} (n : ℕ) (log : ℕ → State → State) (xs : List Text) (s : State) (g : State → Got A) → Logs log → s.turns < n → ((s : State) → s.turns < n → Left n (g s)) → Left n (logs log xs s g)
 logs_left n log xs s g keeps lt go = (logs_alike n n log xs s g g keeps lt (λ s lt. alike_same n (g s) (go s lt))).left
 
-pub cell_turns : (tell : Pointer → State → State) → ((q : Pointer) (s : State) → (tell q s).turns ≡ s.turns) → (m : ℕ) (q : Pointer) (s : State) → (each_cell tell m q s).turns ≡ s.turns
-cell_turns tell keeps zero q s = refl
-cell_turns tell keeps (suc m) q s = cell_turns tell keeps m (next_cell q) (tell q s) ∙ keeps q s
-
 pub block_turns : (b : Bool) (i : First) (s : State) → (noted_block b i s).turns ≡ s.turns
 block_turns b (quiet m) s = refl
 block_turns true (heard c w) s = refl
@@ -103,8 +99,3 @@ use_turns way (heard c w) q s = refl
 pub def_turns : (way : Event → Act) (i : First) (q : Pointer) (s : State) → (noted_def way i q s).turns ≡ s.turns
 def_turns way (quiet m) q s = refl
 def_turns way (heard c w) q s = refl
-
--- told of each cell, the first by an event
-pub told_turns : (tell : (Event → Act) → Pointer → State → State) → ((way : Event → Act) (q : Pointer) (s : State) → (tell way q s).turns ≡ s.turns) → (m : ℕ) (q : Pointer) (s : State) → (told_of_cells tell m q s).turns ≡ s.turns
-told_turns tell keeps zero q s = refl
-told_turns tell keeps (suc m) q s = cell_turns (tell repeats) (keeps repeats) m (next_cell q) (tell tells q s) ∙ keeps tells q s

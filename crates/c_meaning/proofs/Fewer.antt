@@ -1,6 +1,6 @@
 -- What asks for no call and no loop leaves no more turns than there were.
 use Rattle.std.proofs.Common.{ℕ, ◌<◌, List, [], ◌∷◌, Option, Some, None, Result, Ok, Err, Bool, true, false, refl, arith}
-use Rattle.std.specs.Prelude.{bytes_eq, replicate}
+use Rattle.std.specs.Prelude.{nat_le, nat_lt, ◌+◌, length, bytes_eq, replicate}
 use Rattle.atac_base.specs.declared.probes.Event.{Event}
 use Rattle.c_syntax.specs.declared.text.Text.{Text}
 use Rattle.c_syntax.specs.declared.tree.Named.{Named}
@@ -10,18 +10,19 @@ use Rattle.c_store.specs.declared.value.Value.{Value}
 use Rattle.c_store.specs.declared.value.Value.TheVariants.{Int, Null, At}
 use Rattle.c_store.specs.declared.value.Pointer.{Pointer}
 use Rattle.c_store.specs.declared.value.MakeErr.{MakeErr}
-use Rattle.c_store.specs.Cells.{Cells, read_of, write_of, selected, element_of, made}
+use Rattle.c_store.specs.Cells.{Cells, read_of, write_of, selected, made}
 use Rattle.c_tree.specs.Tables.{TablesShape}
 use Rattle.c_tree.specs.Builtins.{builtin_name}
 use Rattle.c_tree.specs.declared.meaning.Builtin.TheVariants.{GetChar, PutChar, Exit}
 use Rattle.c_meaning.specs.State.{Act, tells, repeats, State, instance_of}
+use Rattle.c_meaning.specs.Results.{Gives, untyped}
 use Rattle.c_meaning.specs.Layout.{Part, cells, part_in}
 use Rattle.c_meaning.specs.Firsts.{First, noted_use, noted_def}
-use Rattle.c_meaning.specs.Places.{whole, first_cell, log_use, log_def, loaded, stored, fetched, variable_place, part_place, field_place, cells_from, element_cells, put_in, copied, told_of_cells}
+use Rattle.c_meaning.specs.Places.{whole, first_cell, log_use, log_def, loaded, stored, fetched, variable_place, part_place, field_place, room, has_part, selected_place}
 use Rattle.c_meaning.specs.Builtins.{next_byte, put_byte, exits, built_in}
-use Rattle.c_meaning.specs.Expressions.{number_value, literal_value, noted_value, written, stepped_from}
+use Rattle.c_meaning.specs.Expressions.{gives, number_value, literal_value, noted_value, written, stepped_from}
 use Rattle.c_meaning.specs.Declarations.{new_instance, make, name_marks, filled, filled_whole, scalar_written}
-use Rattle.c_meaning.proofs.Alike.{Left, left_then, if_left, settled_left, present_left, logs_left, cell_turns, use_turns, def_turns, told_turns}
+use Rattle.c_meaning.proofs.Alike.{Left, left_then, if_left, settled_left, present_left, logs_left, use_turns, def_turns}
 
 -- ---- places
 
@@ -31,34 +32,27 @@ loaded_left n xs i q s lt = left_then n _ _ (settled_left n (read_of s.store q) 
 pub stored_left : (n : ℕ) (way : Event → Act) (xs : List Text) (i : First) (q : Pointer) (v : Value) (s : State) → s.turns < n → Left n (stored way xs i q v s)
 stored_left n way xs i q v s lt = left_then n _ _ (settled_left n (write_of s.store q v) s lt) (λ c s lt. logs_left n (log_def q) xs (noted_def way i q (record s { store = c })) _ (λ m s. refl) (omega (arith, def_turns way i q (record s { store = c }))) (λ s lt. lt))
 
+selected_left : (n : ℕ) (q : Pointer) (offset m size : ℕ) (s : State) → s.turns < n → Left n (selected_place q offset m size s)
+selected_left n q offset m size s lt = if_left n (has_part q offset m size) _ _ (settled_left n (selected s.store q offset m size) s lt) tt
+
 pub fetched_left : (t : TablesShape) (n : ℕ) (m : NoteShape) (xs : List Text) (i : First) (q : Pointer) (s : State) → s.turns < n → Left n (fetched t m xs i q s)
 fetched_left t n (typed (int k) c) xs i q s lt = left_then n _ _ (loaded_left n xs i q s lt) (λ v s lt. lt)
 fetched_left t n (typed (pointer k) c) xs i q s lt = left_then n _ _ (loaded_left n xs i q s lt) (λ v s lt. lt)
-fetched_left t n (typed (array k m) c) xs i q s lt = left_then n _ _ (settled_left n (selected s.store q 0 m (cells t k)) s lt) (λ q s lt. lt)
+fetched_left t n (typed (array k m) c) xs i q s lt = left_then n _ _ (selected_left n q 0 m (cells t k) s lt) (λ q s lt. lt)
 fetched_left t n (typed (structure m) c) xs i q s lt = lt
 fetched_left t n (typed nothing c) xs i q s lt = lt
 fetched_left t n (known k v) xs i q s lt = tt
 fetched_left t n bare xs i q s lt = tt
 
 pub variable_left : (t : TablesShape) (n : ℕ) (k : TypeOf) (v : ℕ) (s : State) → s.turns < n → Left n (variable_place t k v s)
-variable_left t n k v s lt = left_then n _ _ (present_left n (instance_of v s) s lt) (λ j s lt. lt)
+variable_left t n k v s lt = left_then n _ _ (present_left n (instance_of v s) s lt) (λ j s lt. if_left n (nat_le (cells t k) room) (Gives (whole j (cells t k)) s) (untyped s) lt tt)
 
 part_left : (t : TablesShape) (n : ℕ) (part : Option Part) (q : Pointer) (s : State) → s.turns < n → Left n (part_place t part q s)
 part_left t n None q s lt = tt
-part_left t n (Some part) q s lt = settled_left n (selected s.store q part.offset 1 (cells t part.kind)) s lt
+part_left t n (Some part) q s lt = selected_left n q part.offset 1 (cells t part.kind) s lt
 
 pub field_left : (t : TablesShape) (n : ℕ) (x : Text) (k : TypeOf) (q : Pointer) (s : State) → s.turns < n → Left n (field_place t x k q s)
 field_left t n x k q s lt = part_left t n (part_in t x k) q s lt
-
-pub copied_left : (n : ℕ) (xs ys : List Text) (i j : First) (q r : Pointer) (s : State) → s.turns < n → Left n (copied xs ys i j q r s)
-copied_left n xs ys i j q r s lt =
-    left_then n _ _ (settled_left n (element_of s.store.live r) s lt) (λ from s lt.
-    logs_left n _ ys (told_of_cells (λ way. noted_use way j) r.size (cells_from r) s) _ (λ m s. cell_turns (λ p s. log_use p m s) (λ q s. refl) r.size (cells_from r) s)
-    (omega (arith, told_turns (λ way. noted_use way j) (λ way. use_turns way j) r.size (cells_from r) s)) (λ s lt.
-    left_then n _ _ (settled_left n (element_of s.store.live q) s lt) (λ to s lt.
-    left_then n _ _ (settled_left n (put_in s.store q (element_cells r from) to) s lt) (λ c s lt.
-    logs_left n _ xs (told_of_cells (λ way. noted_def way i) q.size (cells_from q) (record s { store = c })) _ (λ m s. cell_turns (λ p s. log_def p m s) (λ q s. refl) q.size (cells_from q) s)
-    (omega (arith, told_turns (λ way. noted_def way i) (λ way. def_turns way i) q.size (cells_from q) (record s { store = c }))) (λ s lt. lt)))))
 
 pub written_left : (n : ℕ) (k : TypeOf) (xs : List Text) (i : First) (q : Pointer) (v : Value) (s : State) → s.turns < n → Left n (written k xs i q v s)
 written_left n k xs i q v s lt = left_then n _ _ (stored_left n tells xs i q _ s lt) (λ v s lt. lt)
@@ -74,7 +68,7 @@ number_left n None s lt = tt
 number_left n (Some x) s lt = lt
 
 pub literal_left : (n : ℕ) (m : NoteShape) (x : Text) (s : State) → s.turns < n → Left n (literal_value m x s)
-literal_left n (typed k (Some j)) x s lt = lt
+literal_left n (typed k (Some j)) x s lt = if_left n (nat_lt (length x) room) (gives (At (first_cell j (length x + 1))) s) (untyped s) lt tt
 literal_left n (typed k None) x s lt = tt
 literal_left n (known k v) x s lt = tt
 literal_left n bare x s lt = tt

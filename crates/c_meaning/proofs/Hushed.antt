@@ -1,7 +1,7 @@
 -- A run of which nothing is told, beside one of which all is told: the states are the same but for the deeds. What asks for no call and
 -- no loop keeps this.
 use Rattle.std.proofs.Common.{◌≡◌, ℕ, zero, suc, ◌-◌, List, [], ◌∷◌, Option, Some, None, Result, Ok, Err, Bool, true, false, ◌∙◌, refl, ap}
-use Rattle.std.specs.Prelude.{nat_le, bytes_eq, replicate, if◌then◌else◌}
+use Rattle.std.specs.Prelude.{nat_le, nat_lt, ◌+◌, length, bytes_eq, replicate, if◌then◌else◌}
 use Rattle.atac_base.specs.declared.probes.Event.{Event}
 use Rattle.c_syntax.specs.declared.text.Text.{Text}
 use Rattle.c_syntax.specs.declared.tree.Named.{Named}
@@ -13,18 +13,18 @@ use Rattle.c_store.specs.declared.value.Value.TheVariants.{Int, Null, At}
 use Rattle.c_store.specs.declared.value.Pointer.{Pointer}
 use Rattle.c_store.specs.declared.value.Fault.{Fault}
 use Rattle.c_store.specs.declared.value.MakeErr.{MakeErr}
-use Rattle.c_store.specs.Cells.{Cells, read_of, write_of, selected, element_of, made}
+use Rattle.c_store.specs.Cells.{Cells, read_of, write_of, selected, made}
 use Rattle.c_tree.specs.Tables.{TablesShape}
 use Rattle.c_tree.specs.Builtins.{builtin_name}
 use Rattle.c_tree.specs.declared.meaning.Builtin.TheVariants.{GetChar, PutChar, Exit}
 use Rattle.c_items.specs.Tests.{is_logical}
 use Rattle.c_meaning.specs.State.{Act, tells, repeats, State, instance_of}
-use Rattle.c_meaning.specs.Results.{Got, Gives, Stops, then_do, turn_of, turn, turns, settled, present, needed}
+use Rattle.c_meaning.specs.Results.{Got, Gives, Stops, then_do, turn_of, turn, turns, untyped, settled, present, needed}
 use Rattle.c_meaning.specs.Layout.{Part, cells, part_in}
 use Rattle.c_meaning.specs.Firsts.{First, quiet, heard, noted_block, noted_outcome, noted_test, noted_use, noted_def, noted_made, noted_begun}
-use Rattle.c_meaning.specs.Places.{whole, first_cell, next_cell, logs_one, logs, log_use, log_def, loaded, stored, fetched, variable_place, part_place, field_place, each_cell, cells_from, element_cells, put_in, copied, told_of_cells}
+use Rattle.c_meaning.specs.Places.{whole, first_cell, next_cell, logs_one, logs, log_use, log_def, loaded, stored, fetched, variable_place, part_place, field_place, room, has_part, selected_place}
 use Rattle.c_meaning.specs.Builtins.{next_byte, put_byte, exits, built_in}
-use Rattle.c_meaning.specs.Expressions.{number_value, literal_value, noted_value, written, stepped_from}
+use Rattle.c_meaning.specs.Expressions.{gives, number_value, literal_value, noted_value, written, stepped_from}
 use Rattle.c_meaning.specs.Declarations.{new_instance, make, name_marks, filled, filled_whole, scalar_written}
 
 abbrev pub hush : State → State
@@ -122,55 +122,27 @@ loaded_hush xs m i q s = hush_then _ _ _ _ (hush_settled (read_of s.store q) s) 
 pub stored_hush : (way : Event → Act) (xs : List Text) (m : ℕ) (i : First) (q : Pointer) (v : Value) (s : State) → stored way xs (quiet m) q v (hush s) ≡ hushed (stored way xs i q v s)
 stored_hush way xs m i q v s = hush_then _ _ _ _ (hush_settled (write_of s.store q v) s) (λ c s. hush_logs (log_def q) xs (hush (record s { store = c })) (noted_def way i q (record s { store = c })) _ _ (λ m s. refl) (def_hush way i q (record s { store = c })) (λ s. refl))
 
+selected_hush : (q : Pointer) (offset n size : ℕ) (s : State) → selected_place q offset n size (hush s) ≡ hushed (selected_place q offset n size s)
+selected_hush q offset n size s = hush_if (has_part q offset n size) _ _ (untyped (hush s)) (untyped s) (hush_settled (selected s.store q offset n size) s) refl
+
 pub fetched_hush : (t : TablesShape) (n : NoteShape) (xs : List Text) (m : ℕ) (i : First) (q : Pointer) (s : State) → fetched t n xs (quiet m) q (hush s) ≡ hushed (fetched t n xs i q s)
 fetched_hush t (typed (int k) c) xs m i q s = hush_then _ _ _ _ (loaded_hush xs m i q s) (λ v s. refl)
 fetched_hush t (typed (pointer k) c) xs m i q s = hush_then _ _ _ _ (loaded_hush xs m i q s) (λ v s. refl)
-fetched_hush t (typed (array k n) c) xs m i q s = hush_then _ _ _ _ (hush_settled (selected s.store q 0 n (cells t k)) s) (λ q s. refl)
+fetched_hush t (typed (array k n) c) xs m i q s = hush_then _ _ _ _ (selected_hush q 0 n (cells t k) s) (λ q s. refl)
 fetched_hush t (typed (structure n) c) xs m i q s = refl
 fetched_hush t (typed nothing c) xs m i q s = refl
 fetched_hush t (known k v) xs m i q s = refl
 fetched_hush t bare xs m i q s = refl
 
 pub variable_hush : (t : TablesShape) (k : TypeOf) (v : ℕ) (s : State) → variable_place t k v (hush s) ≡ hushed (variable_place t k v s)
-variable_hush t k v s = hush_then _ _ _ _ (hush_present (instance_of v s) s) (λ j s. refl)
+variable_hush t k v s = hush_then _ _ _ _ (hush_present (instance_of v s) s) (λ j s. hush_if (nat_le (cells t k) room) (Gives (whole j (cells t k)) (hush s)) (Gives (whole j (cells t k)) s) (untyped (hush s)) (untyped s) refl refl)
 
 part_hush : (t : TablesShape) (part : Option Part) (q : Pointer) (s : State) → part_place t part q (hush s) ≡ hushed (part_place t part q s)
 part_hush t None q s = refl
-part_hush t (Some part) q s = hush_settled (selected s.store q part.offset 1 (cells t part.kind)) s
+part_hush t (Some part) q s = selected_hush q part.offset 1 (cells t part.kind) s
 
 pub field_hush : (t : TablesShape) (x : Text) (k : TypeOf) (q : Pointer) (s : State) → field_place t x k q (hush s) ≡ hushed (field_place t x k q s)
 field_hush t x k q s = part_hush t (part_in t x k) q s
-
--- of each cell nothing is told, or something
-each_hush : (tell : Pointer → State → State) → ((q : Pointer) (s : State) → hush s ≡ hush (tell q s)) → (n : ℕ) (q : Pointer) (s : State) → hush s ≡ hush (each_cell tell n q s)
-each_hush tell keeps zero q s = refl
-each_hush tell keeps (suc n) q s = keeps q s ∙ each_hush tell keeps n (next_cell q) (tell q s)
-
-each_none : (tell : Pointer → State → State) → ((q : Pointer) (s : State) → tell q s ≡ s) → (n : ℕ) (q : Pointer) (s : State) → each_cell tell n q s ≡ s
-each_none tell none zero q s = refl
-each_none tell none (suc n) q s = ap (each_cell tell n (next_cell q)) (none q s) ∙ each_none tell none n (next_cell q) s
-
-told_hush : (tell : (Event → Act) → Pointer → State → State) → ((way : Event → Act) (q : Pointer) (s : State) → hush s ≡ hush (tell way q s)) → (n : ℕ) (q : Pointer) (s : State) → hush s ≡ hush (told_of_cells tell n q s)
-told_hush tell keeps zero q s = refl
-told_hush tell keeps (suc n) q s = keeps tells q s ∙ each_hush (tell repeats) (keeps repeats) n (next_cell q) (tell tells q s)
-
-told_none : (tell : (Event → Act) → Pointer → State → State) → ((way : Event → Act) (q : Pointer) (s : State) → tell way q s ≡ s) → (n : ℕ) (q : Pointer) (s : State) → told_of_cells tell n q s ≡ s
-told_none tell none zero q s = refl
-told_none tell none (suc n) q s = ap (each_cell (tell repeats) n (next_cell q)) (none tells q s) ∙ each_none (tell repeats) (none repeats) n (next_cell q) s
-
-each_deaf : (tell : Pointer → State → State) → ((q : Pointer) (s : State) → tell q (hush s) ≡ hush (tell q s)) → (n : ℕ) (q : Pointer) (s : State) → each_cell tell n q (hush s) ≡ hush (each_cell tell n q s)
-each_deaf tell deaf zero q s = refl
-each_deaf tell deaf (suc n) q s = ap (each_cell tell n (next_cell q)) (deaf q s) ∙ each_deaf tell deaf n (next_cell q) (tell q s)
-
-pub copied_hush : (xs ys : List Text) (m m' : ℕ) (i j : First) (q r : Pointer) (s : State) → copied xs ys (quiet m) (quiet m') q r (hush s) ≡ hushed (copied xs ys i j q r s)
-copied_hush xs ys m m' i j q r s =
-    hush_then _ _ _ _ (hush_settled (element_of s.store.live r) s) (λ from s.
-    hush_logs _ ys _ _ _ _ (λ n s. each_deaf (λ p s. log_use p n s) (λ q s. refl) r.size (cells_from r) s)
-    (told_none (λ way. noted_use way (quiet m')) (λ way q s. refl) r.size (cells_from r) (hush s) ∙ told_hush (λ way. noted_use way j) (λ way. use_hush way j) r.size (cells_from r) s) (λ s.
-    hush_then _ _ _ _ (hush_settled (element_of s.store.live q) s) (λ to s.
-    hush_then _ _ _ _ (hush_settled (put_in s.store q (element_cells r from) to) s) (λ c s.
-    hush_logs _ xs _ _ _ _ (λ n s. each_deaf (λ p s. log_def p n s) (λ q s. refl) q.size (cells_from q) s)
-    (told_none (λ way. noted_def way (quiet m)) (λ way q s. refl) q.size (cells_from q) (hush (record s { store = c })) ∙ told_hush (λ way. noted_def way i) (λ way. def_hush way i) q.size (cells_from q) (record s { store = c })) (λ s. refl)))))
 
 pub written_hush : (k : TypeOf) (xs : List Text) (m : ℕ) (i : First) (q : Pointer) (v : Value) (s : State) → written k xs (quiet m) q v (hush s) ≡ hushed (written k xs i q v s)
 written_hush k xs m i q v s = hush_then _ _ _ _ (stored_hush tells xs m i q _ s) (λ v s. refl)
@@ -186,7 +158,7 @@ number_hush None s = refl
 number_hush (Some x) s = refl
 
 pub literal_hush : (n : NoteShape) (x : Text) (s : State) → literal_value n x (hush s) ≡ hushed (literal_value n x s)
-literal_hush (typed k (Some j)) x s = refl
+literal_hush (typed k (Some j)) x s = hush_if (nat_lt (length x) room) (gives (At (first_cell j (length x + 1))) (hush s)) (gives (At (first_cell j (length x + 1))) s) (untyped (hush s)) (untyped s) refl refl
 literal_hush (typed k None) x s = refl
 literal_hush (known k v) x s = refl
 literal_hush bare x s = refl

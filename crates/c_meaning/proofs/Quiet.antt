@@ -18,16 +18,15 @@ use Rattle.c_items.specs.declared.around.Taken.{Taken}
 use Rattle.c_items.specs.declared.around.Taken.TheVariants.{Read, Written, Changed, Addressed}
 use Rattle.c_meaning.specs.State.{State}
 use Rattle.c_meaning.specs.Results.{Got, Gives, then_do, settled, needed}
-use Rattle.c_meaning.specs.Layout.{cells}
 use Rattle.c_meaning.specs.Operators.{is_true, operated, stepped_by_one, element_pointer, of_one, target, pointed}
 use Rattle.c_meaning.specs.Firsts as firsts
 use Rattle.c_meaning.specs.Firsts.{First, quiet, heard, within, at_test, at_arm, behind_test, behind_arm, noted_block, noted_test}
-use Rattle.c_meaning.specs.Places.{marks, fetched, copied}
+use Rattle.c_meaning.specs.Places.{marks, fetched}
 use Rattle.c_meaning.specs.Constants.{type_at, kind_noted}
 use Rattle.c_meaning.specs.Knot.{Loop, Knot}
 use Rattle.c_meaning.specs.Builtins.{called, called_row, params_of}
 use Rattle.c_meaning.specs.Expressions.{Meaning, as_value, as_place, gives, operand, name_meaning, leaf_meaning, cast_value, tested, arm, last_test, assigned, step_value, meaning, form_meaning, arguments}
-use Rattle.c_meaning.proofs.Hushed.{hush, hushed, hush_then, hush_turn, hush_if, hush_turns, hush_settled, hush_needed, hush_logs, block_hush, test_hush, loaded_hush, fetched_hush, variable_hush, field_hush, copied_hush, written_hush, stepped_hush, number_hush, literal_hush, noted_hush, built_in_hush}
+use Rattle.c_meaning.proofs.Hushed.{hush, hushed, hush_then, hush_turn, hush_if, hush_settled, hush_needed, hush_logs, block_hush, test_hush, loaded_hush, fetched_hush, variable_hush, field_hush, written_hush, stepped_hush, number_hush, literal_hush, noted_hush, built_in_hush}
 
 -- what stands before a node, where nothing is told
 abbrev pub quieted : First → First
@@ -92,12 +91,8 @@ last_quiet : (a : NodeShape) (x y : Meaning) → Quiets x y → (m : ℕ) (i : F
 last_quiet a x y qs m i s =
     arm_quiet a m i s (λ j s. then_do (tested a x j s) (λ b. gives (Int (truth b)))) (λ j s. then_do (tested a y j s) (λ b. gives (Int (truth b)))) (λ j s. hush_then _ _ _ _ (tested_quiet a x y qs m j s) (λ b s. refl))
 
-assigned_quiet : (t : TablesShape) (k : TypeOf) (xs ys : List Text) (x y : Meaning) → Quiets x y → (m m' : ℕ) (i j : First) (q : Pointer) (s : State) → assigned t k xs ys x (quiet m) (quiet m') q (hush s) ≡ hushed (assigned t k xs ys y i j q s)
-assigned_quiet t (structure n) xs ys x y qs m m' i j q s = hush_then _ _ _ _ (qs.place_quiet Read m' j s) (λ r s. hush_turns (cells t (structure n)) s (copied xs ys (quiet m) (quiet m') q r) (copied xs ys i j q r) (λ s. copied_hush xs ys m m' i j q r s))
-assigned_quiet t (int k) xs ys x y qs m m' i j q s = hush_then _ _ _ _ (hush_needed _ _ (qs.value_quiet m' j s)) (λ v s. written_hush (int k) xs m i q v s)
-assigned_quiet t (pointer k) xs ys x y qs m m' i j q s = hush_then _ _ _ _ (hush_needed _ _ (qs.value_quiet m' j s)) (λ v s. written_hush (pointer k) xs m i q v s)
-assigned_quiet t (array k n) xs ys x y qs m m' i j q s = hush_then _ _ _ _ (hush_needed _ _ (qs.value_quiet m' j s)) (λ v s. written_hush (array k n) xs m i q v s)
-assigned_quiet t nothing xs ys x y qs m m' i j q s = hush_then _ _ _ _ (hush_needed _ _ (qs.value_quiet m' j s)) (λ v s. written_hush nothing xs m i q v s)
+assigned_quiet : (k : TypeOf) (xs : List Text) (x y : Meaning) → Quiets x y → (m m' : ℕ) (i j : First) (q : Pointer) (s : State) → assigned k xs x (quiet m) (quiet m') q (hush s) ≡ hushed (assigned k xs y i j q s)
+assigned_quiet k xs x y qs m m' i j q s = hush_then _ _ _ _ (hush_needed _ _ (qs.value_quiet m' j s)) (λ v s. written_hush k xs m i q v s)
 
 step_quiet : (f : Bool) (u : Step) (a : NodeShape) (x y : Meaning) → Quiets x y → (m : ℕ) (i : First) (s : State) → step_value f u a x (quiet m) (hush s) ≡ hushed (step_value f u a y i s)
 step_quiet f u a x y qs m i s =
@@ -163,7 +158,7 @@ module _ (t : TablesShape) (k l : Knot) (follows : Follows k l) where
         hush_then _ _ _ _ (tested_quiet a _ _ (node_quiets a) m i s) (λ x s.
         hush_if x (gives (Int (pos 1)) (hush s)) (gives (Int (pos 1)) s) _ _ refl (last_quiet b _ _ (node_quiets b) m (behind_test a i) s)))
     form_quiets p n (two (assign None) a b) = value_quiets _ _ (λ m i s.
-        hush_then _ _ _ _ ((node_quiets a).place_quiet Written m i s) (λ q s. assigned_quiet t (type_at a) (marks def a) (marks used b) _ _ (node_quiets b) m m i (firsts.behind Written a i) q s))
+        hush_then _ _ _ _ ((node_quiets a).place_quiet Written m i s) (λ q s. assigned_quiet (type_at a) (marks def a) _ _ (node_quiets b) m m i (firsts.behind Written a i) q s))
     form_quiets p n (two (assign (Some u)) a b) = value_quiets _ _ (λ m i s.
         hush_then _ _ _ _ ((node_quiets a).place_quiet Changed m i s) (λ q s.
         hush_then _ _ _ _ (loaded_hush (marks used a) m i q s) (λ x s.

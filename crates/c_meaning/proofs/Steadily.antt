@@ -1,6 +1,6 @@
 -- What each step of a run keeps, the parts of expressions keep.
 use Rattle.std.proofs.Common.{◌≡◌, ℕ, zero, suc, ◌≤◌, ◌-◌, ◌+◌, List, [], ◌∷◌, ◌++◌, length, Option, Some, None, Result, Ok, Err, Bool, true, false, refl, arith}
-use Rattle.std.specs.Prelude.{nat_le, bytes_eq, replicate, if◌then◌else◌}
+use Rattle.std.specs.Prelude.{nat_le, nat_lt, bytes_eq, replicate, if◌then◌else◌}
 use Rattle.atac_base.specs.declared.probes.Event.{Event}
 use Rattle.c_syntax.specs.declared.text.Text.{Text}
 use Rattle.c_syntax.specs.declared.tree.Named.{Named}
@@ -19,12 +19,12 @@ use Rattle.c_tree.specs.Builtins.{builtin_name}
 use Rattle.c_tree.specs.declared.meaning.Builtin.TheVariants.{GetChar, PutChar, Exit}
 use Rattle.c_items.specs.Tests.{is_logical}
 use Rattle.c_meaning.specs.State.{Act, tells, repeats, State, instance_of}
-use Rattle.c_meaning.specs.Results.{Got, Gives, Stops, then_do, turn_of, turn, turns, settled, present, needed}
+use Rattle.c_meaning.specs.Results.{Got, Gives, Stops, then_do, turn_of, turn, turns, untyped, settled, present, needed}
 use Rattle.c_meaning.specs.Layout.{Part, cells, part_in}
 use Rattle.c_meaning.specs.Firsts.{First, quiet, heard, noted_block, noted_outcome, noted_test, noted_use, noted_def, noted_made, noted_begun}
-use Rattle.c_meaning.specs.Places.{whole, first_cell, next_cell, logs_one, logs, log_use, log_def, loaded, stored, fetched, variable_place, part_place, field_place, each_cell, cells_from, element_cells, with_cells, put_in, copied, told_of_cells}
+use Rattle.c_meaning.specs.Places.{whole, first_cell, next_cell, logs_one, logs, log_use, log_def, loaded, stored, fetched, variable_place, part_place, field_place, room, has_part, selected_place}
 use Rattle.c_meaning.specs.Builtins.{next_byte, put_byte, exits, built_in}
-use Rattle.c_meaning.specs.Expressions.{number_value, literal_value, noted_value, written, stepped_from}
+use Rattle.c_meaning.specs.Expressions.{gives, number_value, literal_value, noted_value, written, stepped_from}
 use Rattle.c_meaning.specs.Declarations.{new_instance, make, name_marks, filled, filled_whole, scalar_written}
 use Rattle.c_meaning.specs.Lasting.{Lasts, Lasted}
 
@@ -40,9 +40,6 @@ if_count n false c why e = tt
 write_count : (c : Cells) (r : Result Slot Fault) (p : Pointer) (v : Value) → SameCount c.count (write_in c r p v)
 write_count c (Err why) p v = tt
 write_count c (Ok slot) p v = if_count c.count slot.writable (record c { live = replace p.instance (with_value slot (cell_of p) v) c.live }) WriteLiteral refl
-
-put_count : (c : Cells) (q : Pointer) (vs : List (Option Value)) (slot : Slot) → SameCount c.count (put_in c q vs slot)
-put_count c q vs slot = if_count c.count slot.writable (record c { live = replace q.instance (with_cells (cell_of q) vs slot) c.live }) WriteLiteral refl
 
 -- the state after a result, or when the run stops
 abbrev pub state_in : {A : Type 0} → Got A → State
@@ -151,14 +148,6 @@ module _ (R C Q : State → State → Type 0) (lasts : Lasts R C Q) where
   begun_kept (quiet m) f s = lasts.same s
   begun_kept (heard c w) f s = lasts.done s _
 
-  each_kept : (tell : Pointer → State → State) → ((q : Pointer) (s : State) → R s (tell q s)) → (n : ℕ) (q : Pointer) (s : State) → R s (each_cell tell n q s)
-  each_kept tell keeps zero q s = lasts.same s
-  each_kept tell keeps (suc n) q s = lasts.further s (tell q s) _ (keeps q s) (each_kept tell keeps n (next_cell q) (tell q s))
-
-  told_kept : (tell : (Event → Act) → Pointer → State → State) → ((way : Event → Act) (q : Pointer) (s : State) → R s (tell way q s)) → (n : ℕ) (q : Pointer) (s : State) → R s (told_of_cells tell n q s)
-  told_kept tell keeps zero q s = lasts.same s
-  told_kept tell keeps (suc n) q s = lasts.further s (tell tells q s) _ (keeps tells q s) (each_kept (tell repeats) (keeps repeats) n (next_cell q) (tell tells q s))
-
   -- ---- places
 
   pub loaded_kept : (xs : List Text) (i : First) (q : Pointer) (s : State) → Lasted R Q s (loaded xs i q s)
@@ -170,34 +159,27 @@ module _ (R C Q : State → State → Type 0) (lasts : Lasts R C Q) where
       store_kept (write_of s.store q v) s _ (write_count s.store (element_of s.store.live q) q v) (λ c.
       behind_step (record s { store = c }) (noted_def way i q (record s { store = c })) _ (def_kept way i q (record s { store = c })) (logs_kept (log_def q) xs (noted_def way i q (record s { store = c })) _ (λ m s. lasts.told s _) (λ s. at_rest _ _ (lasts.same s))))
 
+  selected_kept : (q : Pointer) (offset n size : ℕ) (s : State) → Lasted R Q s (selected_place q offset n size s)
+  selected_kept q offset n size s = if_kept s (has_part q offset n size) _ _ (settled_kept (selected s.store q offset n size) s) (at_rest _ _ (lasts.same s))
+
   pub fetched_kept : (t : TablesShape) (n : NoteShape) (xs : List Text) (i : First) (q : Pointer) (s : State) → Lasted R Q s (fetched t n xs i q s)
   fetched_kept t (typed (int k) c) xs i q s = then_kept s _ _ (loaded_kept xs i q s) (λ v s. at_rest _ _ (lasts.same s))
   fetched_kept t (typed (pointer k) c) xs i q s = then_kept s _ _ (loaded_kept xs i q s) (λ v s. at_rest _ _ (lasts.same s))
-  fetched_kept t (typed (array k n) c) xs i q s = then_kept s _ _ (settled_kept (selected s.store q 0 n (cells t k)) s) (λ q s. at_rest _ _ (lasts.same s))
+  fetched_kept t (typed (array k n) c) xs i q s = then_kept s _ _ (selected_kept q 0 n (cells t k) s) (λ q s. at_rest _ _ (lasts.same s))
   fetched_kept t (typed (structure n) c) xs i q s = at_rest _ _ (lasts.same s)
   fetched_kept t (typed nothing c) xs i q s = at_rest _ _ (lasts.same s)
   fetched_kept t (known k v) xs i q s = at_rest _ _ (lasts.same s)
   fetched_kept t bare xs i q s = at_rest _ _ (lasts.same s)
 
   pub variable_kept : (t : TablesShape) (k : TypeOf) (v : ℕ) (s : State) → Lasted R Q s (variable_place t k v s)
-  variable_kept t k v s = then_kept s _ _ (present_kept (instance_of v s) s) (λ j s. at_rest _ _ (lasts.same s))
+  variable_kept t k v s = then_kept s _ _ (present_kept (instance_of v s) s) (λ j s. if_kept s (nat_le (cells t k) room) (Gives (whole j (cells t k)) s) (untyped s) (at_rest _ _ (lasts.same s)) (at_rest _ _ (lasts.same s)))
 
   part_kept : (t : TablesShape) (part : Option Part) (q : Pointer) (s : State) → Lasted R Q s (part_place t part q s)
   part_kept t None q s = at_rest _ _ (lasts.same s)
-  part_kept t (Some part) q s = settled_kept (selected s.store q part.offset 1 (cells t part.kind)) s
+  part_kept t (Some part) q s = selected_kept q part.offset 1 (cells t part.kind) s
 
   pub field_kept : (t : TablesShape) (x : Text) (k : TypeOf) (q : Pointer) (s : State) → Lasted R Q s (field_place t x k q s)
   field_kept t x k q s = part_kept t (part_in t x k) q s
-
-  pub copied_kept : (xs ys : List Text) (i j : First) (q r : Pointer) (s : State) → Lasted R Q s (copied xs ys i j q r s)
-  copied_kept xs ys i j q r s =
-      then_kept s _ _ (settled_kept (element_of s.store.live r) s) (λ from s.
-      behind_step s (told_of_cells (λ way. noted_use way j) r.size (cells_from r) s) _ (told_kept (λ way. noted_use way j) (λ way. use_kept way j) r.size (cells_from r) s)
-      (logs_kept _ ys (told_of_cells (λ way. noted_use way j) r.size (cells_from r) s) _ (λ m s. each_kept (λ p s. log_use p m s) (λ q s. lasts.told s _) r.size (cells_from r) s) (λ s.
-      then_kept s _ _ (settled_kept (element_of s.store.live q) s) (λ to s.
-      store_kept (put_in s.store q (element_cells r from) to) s _ (put_count s.store q (element_cells r from) to) (λ c.
-      behind_step (record s { store = c }) (told_of_cells (λ way. noted_def way i) q.size (cells_from q) (record s { store = c })) _ (told_kept (λ way. noted_def way i) (λ way. def_kept way i) q.size (cells_from q) (record s { store = c }))
-      (logs_kept _ xs (told_of_cells (λ way. noted_def way i) q.size (cells_from q) (record s { store = c })) _ (λ m s. each_kept (λ p s. log_def p m s) (λ q s. lasts.told s _) q.size (cells_from q) s) (λ s. at_rest _ _ (lasts.same s))))))))
 
   pub written_kept : (k : TypeOf) (xs : List Text) (i : First) (q : Pointer) (v : Value) (s : State) → Lasted R Q s (written k xs i q v s)
   written_kept k xs i q v s = then_kept s _ _ (stored_kept tells xs i q _ s) (λ v s. at_rest _ _ (lasts.same s))
@@ -213,7 +195,7 @@ module _ (R C Q : State → State → Type 0) (lasts : Lasts R C Q) where
   number_kept (Some x) s = at_rest _ _ (lasts.same s)
 
   pub literal_kept : (n : NoteShape) (x : Text) (s : State) → Lasted R Q s (literal_value n x s)
-  literal_kept (typed k (Some j)) x s = at_rest _ _ (lasts.same s)
+  literal_kept (typed k (Some j)) x s = if_kept s (nat_lt (length x) room) (gives (At (first_cell j (length x + 1))) s) (untyped s) (at_rest _ _ (lasts.same s)) (at_rest _ _ (lasts.same s))
   literal_kept (typed k None) x s = at_rest _ _ (lasts.same s)
   literal_kept (known k v) x s = at_rest _ _ (lasts.same s)
   literal_kept bare x s = at_rest _ _ (lasts.same s)

@@ -89,19 +89,6 @@ pub record Ending : Type 0 where
 abbrev ending : Outcome → Ending
 ending o = record { turns = o.turns; end = o.end }
 
--- struct s{int f;int g;};int main(void){struct s a;struct s b;a.f=1;a.g=2;b=a;b.g=5;return b.f+b.g;}: a turn for each cell that is copied
-copied : ending (run (program (s_struct ∷ main_with (an_s a ∷ an_s b ∷ []) (does (set (dotted (var a) f) (digit 1)) (does (set (dotted (var a) g) (digit 2))
-    (does (set (var b) (var a)) (does (set (dotted (var b) g) (digit 5)) (give (bin op.Add (dotted (var b) f) (dotted (var b) g))))))) ∷ [])) [] 100)
-    ≡ record { turns = 32; end = end.Returned (pos 6) }
-unfolding pattern value_of fitted shift_count unary_result binary_result calls
-copied = refl
-
--- struct s{int f;int g;};int main(void){struct s a;struct s b;a.f=1;b=a;return b.g;}: a cell without value is copied as one
-copied_without_value : ending (run (program (s_struct ∷ main_with (an_s a ∷ an_s b ∷ []) (does (set (dotted (var a) f) (digit 1)) (does (set (var b) (var a)) (give (dotted (var b) g)))) ∷ [])) [] 100)
-    ≡ record { turns = 19; end = end.Fault Uninitialised main_text }
-unfolding pattern value_of fitted shift_count unary_result binary_result calls
-copied_without_value = refl
-
 -- ---- pointers
 
 -- int main(void){int x;int y;int*q;x=1;q=&x;*q=2;y=x;return y;}

@@ -90,8 +90,8 @@ variable_in t b n = None
 
 -- one of so many elements of that size, which lie in the element at that place
 abbrev pub part_of : Pointer → ℕ → ℕ → ℕ → ℕ → Option Pointer
-part_of q offset n size index =
-    if has_part q offset n size then Some (record { instance = q.instance; base = cell_of q + offset; length = n; size = size; index = index }) else None
+part_of q offset n size at =
+    if has_part q offset n size then Some (record { instance = q.instance; base = cell_of q + offset; length = n; size = size; index = at }) else None
 
 -- the element of an array at that place; its index is below the length
 abbrev pub element_in : TablesShape → TypeOf → Constant → Option Pointer → Option Pointer
