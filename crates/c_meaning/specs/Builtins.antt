@@ -1,6 +1,8 @@
 -- Calls, and the functions that every program has (C89, 4.9.7.6, 4.9.7.9, 4.10.4.3).
 use Rattle.std.specs.Prelude.{ℕ, ℤ, pos, negsuc, ◌++◌, List, [], ◌∷◌, bytes_eq, unsigned_abs, Option, Some, None, is_some, if◌then◌else◌}
 use Rattle.std.specs.Int.{int_rem_euclid}
+use Rattle.atac_base.specs.declared.place.IntKind.TheVariants.{Int as AnInt}
+use Rattle.c_arith.specs.Arith.{wrap}
 use Rattle.c_syntax.specs.declared.text.Text.{Text}
 use Rattle.c_syntax.specs.Shape.{TypeOf, NoteShape, typed}
 use Rattle.c_store.specs.declared.value.Value.{Value}
@@ -30,8 +32,9 @@ abbrev pub put_byte : List Value → State → Got (Option Value)
 put_byte (Int z ∷ []) s = Gives (Some (Int (pos (byte_of z)))) (record s { output = s.output ++ byte_of z ∷ [] })
 put_byte vs s = untyped s
 
+-- the status is an int
 abbrev pub exits : List Value → State → Got (Option Value)
-exits (Int z ∷ []) s = Stops (stop.Exited z) s
+exits (Int z ∷ []) s = Stops (stop.Exited (wrap AnInt z)) s
 exits vs s = untyped s
 
 abbrev pub built_in : Text → List Value → State → Got (Option Value)

@@ -1,6 +1,8 @@
 -- A whole run (C89, 2.1.2.2.1): the objects of file scope are made, and main is called.
 use Rattle.std.specs.Prelude.{ℕ, ◌-◌, pos, List, [], ◌∷◌, false, Option, Some, None}
 use Rattle.atac_base.specs.declared.probes.Event.{Event}
+use Rattle.atac_base.specs.declared.place.IntKind.TheVariants.{Int as AnInt}
+use Rattle.c_arith.specs.Arith.{wrap}
 use Rattle.c_syntax.specs.declared.text.Text.{Text}
 use Rattle.c_syntax.specs.Shape.{ExternalShape, defined, declared}
 use Rattle.c_store.specs.declared.value.Value.{Value}
@@ -66,9 +68,9 @@ name_in (Some f) = f.name
 abbrev pub active_name : TablesShape → State → Text
 active_name t s = name_in (row t.functions (function_in s.calls))
 
--- main without a result returns 0
+-- main returns an int, and 0 where it has no result
 abbrev pub returned_end : Option Value → End
-returned_end (Some (Int z)) = end.Returned z
+returned_end (Some (Int z)) = end.Returned (wrap AnInt z)
 returned_end v = end.Returned (pos 0)
 
 abbrev pub stopped_end : TablesShape → Stop → State → End
