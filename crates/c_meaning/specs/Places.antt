@@ -38,7 +38,7 @@ variable_place t k n s = then_do (present (instance_of n s) s) (object_at (cells
 
 -- so many elements of that size, from the offset on, lie in the element at that place
 abbrev pub has_part : Pointer → ℕ → ℕ → ℕ → Bool
-has_part q offset n size = nat_le size room && nat_le (offset + n * size) q.size
+has_part q offset n size = nat_le offset room && (nat_le size room && nat_le (offset + n * size) q.size)
 
 -- a pointer to the first of them
 abbrev pub selected_place : Pointer → ℕ → ℕ → ℕ → State → Got Pointer
