@@ -50,7 +50,7 @@ split zero m = inl (omega arith)
 split (suc a) zero = inr (omega arith)
 split (suc a) (suc m) = ⊎_elim (λ h. inl (omega (arith, h))) (λ h. inr (omega (arith, h))) (split a m)
 
-kept_small : (a : ℕ) → a ≤ 2 ^ 32 - 1 → kept a ≡ a
+pub kept_small : (a : ℕ) → a ≤ 2 ^ 32 - 1 → kept a ≡ a
 kept_small a h = omega (arith, h)
 
 large_product : (a b : ℕ) → 2 ^ 32 - 1 < a → kept (kept a * kept b) ≡ kept (a * b)

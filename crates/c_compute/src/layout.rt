@@ -1,19 +1,26 @@
-//! How many cells types have.
+//! How many cells types have, and how many stand before a field.
 
-ghost use Rattle.std.specs.Prelude.{◌≡◌, ◌*◌, ◌<◌, ◌≤◌, length, map, get_or, Some, OnOk, IfOk};
+ghost use Rattle.std.specs.Prelude.{◌≡◌, ◌*◌, ◌<◌, ◌≤◌, length, map, get_or, option_map, Some, OnOk, IfOk};
 ghost use Rattle.c_syntax.specs.Shape.{TypeOf};
 ghost use Rattle.c_syntax.specs.View.{type_of};
 ghost use Rattle.c_tree.specs.State.{row, fields_in};
 ghost use Rattle.c_tree.specs.Tables.{TablesShape, tables_shape, field_shape};
-ghost use Rattle.c_meaning.specs.Layout.{cells, variable_kind};
+ghost use Rattle.c_meaning.specs.Layout.{cells, variable_kind, part_in, part_from};
 ghost use Rattle.c_compute.specs.Sizes.{element, elements, element_count, field_count, scalar_count, kept, IsMeasured};
+ghost use Rattle.c_compute.specs.Parts.{part_shape, kept_part};
 
 use atac_base::place::NoMemory;
 use c_syntax::tree::CType;
 use c_tree::tables::{FieldRow, Tables};
 
-/// How many cells an object of the type has, one for each of its scalars (C89, 3.1.2.5); 4,294,967,295 where it has more.
+/// A field of a structure: how many cells stand before it, and its type (C89, 3.5.2.1).
+#[derive(Clone, Copy, Drop)]
+pub struct Part<'t> {
+    pub offset: u32,
+    pub kind: &'t CType,
+}
 
+/// How many cells an object of the type has, one for each of its scalars (C89, 3.1.2.5); 4,294,967,295 where it has more.
 pub fn cells(tables: &Tables, kind: &CType) -> u32
     ensures { result ≡ kept (cells (tables_shape tables.now) (type_of kind.now)) }
 {
@@ -136,4 +143,40 @@ fn product(a: u32, b: u32) -> u32
     ensures { result ≡ kept (a * b) }
 {
     a.saturating_mul(b)
+}
+
+/// The field of that name in a structure of that type; its offset is 4,294,967,295 where more cells stand before it. None
+/// where there is no such field.
+pub fn part_in<'t>(tables: &'t Tables, name: &[u8], kind: &CType) -> Option<Part<'t>>
+    ensures { option_map part_shape result ≡ kept_part (part_in (tables_shape tables.now) name.now (type_of kind.now)) }
+{
+    match kind {
+        CType::Struct(number) => part_of(tables, name, *number),
+        CType::Int(_) | CType::Pointer(_) | CType::Array(_, _) | CType::Void => None,
+    }
+}
+
+fn part_of<'t>(tables: &'t Tables, name: &[u8], number: u32) -> Option<Part<'t>>
+    ensures { option_map part_shape result ≡ kept_part (part_from (tables_shape tables.now) 0 name.now (fields_in (row (tables_shape tables.now).structures number))) }
+{
+    if number == 0 || number > tables.structures() {
+        return None;
+    }
+    part_among(tables, name, &tables.structure(number).fields)
+}
+
+fn part_among<'t>(tables: &Tables, name: &[u8], fields: &'t [FieldRow]) -> Option<Part<'t>>
+    ensures { option_map part_shape result ≡ kept_part (part_from (tables_shape tables.now) 0 name.now (map field_shape fields.now)) }
+{
+    let mut offset: u32 = 0;
+    for field in fields {
+        if name == field.name.bytes() {
+            return Some(Part {
+                offset,
+                kind: &field.kind,
+            });
+        }
+        offset = offset.saturating_add(cells(tables, &field.kind));
+    }
+    None
 }

@@ -1,7 +1,10 @@
 pub mod Trails
 pub mod Scopes
+pub mod Counts
 pub mod Made
 pub mod Written
+pub mod Marked
+pub mod Telling
 pub mod Given
 pub mod Literals
 pub mod Declares

@@ -88,3 +88,13 @@ made_on n c d w vs j last living most active e number =
     let g = larger c d w vs e in
     let on : Living (suc c.count) (call_instances n.calls) d = living_on (suc c.count) (call_instances n.calls) c d g.live living in
     record { living = lower (suc c.count) (suc d.count) (call_instances n.calls) d (omega (arith, g.count)) on; counted = number; most = g.most ∙ most; active = active }
+
+gone_alike : (old mid new : Naming) (c d : Cells) (made last : ℕ) → mid.calls ≡ new.calls → Gone old mid c d made last → Gone old new c d made last
+gone_alike old mid new c d made last e g =
+    let same : call_instances mid.calls ≡ call_instances new.calls = ap call_instances e in
+    let act : activation_in mid.calls ≡ activation_in new.calls = ap activation_in e in
+    record { living = subst (λ js. Living (suc d.count) js d) same g.living; counted = g.counted; most = g.most; active = omega (arith, act, g.active) }
+
+pub filed_on : (old new : Naming) (c d : Cells) (vs : List (Option Value)) (v j last : ℕ) (r : Result (Unit {0}) NoMemory) → Living (suc c.count) (call_instances old.calls) c → c.most ≡ 1048576 → activation_in old.calls ≤ last → made c true vs ≡ Ok d → j ≡ d.count → OnOk r (new ≡ record old { file = record { variable = v; instance = j } ∷ old.file }) → OnErr r (new ≡ old) → Gone old new c d j last
+filed_on old new c d vs v j last (Ok u) living most active e number bound kept = gone_alike old old new c d j last (sym (ap (λ (n : Naming). n.calls) bound)) (made_on old c d true vs j last living most active e number)
+filed_on old new c d vs v j last (Err u) living most active e number bound kept = gone_alike old old new c d j last (sym (ap (λ (n : Naming). n.calls) kept)) (made_on old c d true vs j last living most active e number)

@@ -3,12 +3,11 @@ use Rattle.std.proofs.Common.{append-nil, ◌≡◌, ℕ, zero, suc, ◌<◌, �
 use Rattle.std.proofs.lemmas.Bool.{eqb-true, eqb-false, false≢true}
 use Rattle.std.specs.Prelude.{slice_set, reverse, option_to_list, IsSome}
 use Rattle.std.proofs.lemmas.List.{reverse-append, get_or-set_other, get_or-set_same, set-get_or, set-append_left, set-set, length-set}
-use Rattle.c_meaning.specs.State.{Bound, Call, activation_in, found_in, found_among, found_within, or_else, with_bound, in_call, opened, top_of, tail_of}
+use Rattle.c_meaning.specs.State.{Bound, Call, activation_in, found_in, found_among, found_within, function_in, or_else, with_bound, in_call, opened, top_of, tail_of}
 use Rattle.c_world.specs.declared.names.Standing.{Standing}
 use Rattle.c_world.specs.declared.names.Entry.{Entry}
 use Rattle.c_world.specs.declared.names.Entry.TheVariants as entry
-use Rattle.c_world.specs.declared.names.Filed.{Filed}
-use Rattle.c_world.specs.Names.{Naming, Undone, IsActive, standing_of, scopes_in, calls_of, nowhere, Sound, bound_in, IsFiled, file_of}
+use Rattle.c_world.specs.Names.{Naming, Undone, IsActive, standing_of, scopes_in, calls_of, called, nowhere, Sound, bound_in}
 
 pub newest : {A : Type 0} (xs : List A) (x : A) → reverse (xs ++ x ∷ []) ≡ x ∷ reverse xs
 newest xs x = reverse-append xs (x ∷ [])
@@ -107,9 +106,6 @@ grown (entry.Name v j b ∷ es) t s =
     let longer : v < length (t ++ nowhere ∷ []) = rw length-append (omega (arith, s.1)) in
     (s.0, longer, grown_same t nowhere v ∙ s.2, rw (set-append_left t (nowhere ∷ []) v b s.1) (grown es (slice_set t v b) s.3))
 
-pub grown_file : (bs : List Bound) (t : List (Option ℕ)) → IsFiled bs t → IsFiled bs (t ++ None ∷ [])
-grown_file bs t s v = grown_same t None v ∙ s v
-
 -- ---- what a last entry says
 
 scope_more : (cs : List Call) → IsActive cs → 1 ≤ length (scopes_in (in_call opened cs))
@@ -142,10 +138,10 @@ stands_local n b es t s v a j r view sound at got bound is =
     let f : found_within v (calls_of es) ≡ Some j = looked_up es t v sound ∙ ap (λ x. bound_in x (activation_in (calls_of es))) (sym got) ∙ ap (λ x. bound_in s x) (sym at) ∙ sym bound ∙ is in
     subst (λ n. Some j ≡ standing_of v n) view (ap (λ x. or_else x (found_in v b)) (sym f))
 
-pub stands_filed : (n : Naming) (b : List Bound) (es : List Entry) (t : List Standing) (s : Standing) (v a : ℕ) (r q : Option ℕ) (files : List (Option ℕ)) → record { file = b; calls = calls_of es } ≡ n → Sound es t → IsFiled b files → a ≡ activation_in (calls_of es) → s ≡ get_or t v nowhere → r ≡ bound_in s a → r ≡ None → q ≡ get_or files v None → q ≡ standing_of v n
-stands_filed n b es t s v a r q files view sound filed at got bound is out =
+pub stands_filed : (n : Naming) (b : List Bound) (es : List Entry) (t : List Standing) (s : Standing) (v a : ℕ) (r q : Option ℕ) → record { file = b; calls = calls_of es } ≡ n → Sound es t → a ≡ activation_in (calls_of es) → s ≡ get_or t v nowhere → r ≡ bound_in s a → r ≡ None → q ≡ found_in v b → q ≡ standing_of v n
+stands_filed n b es t s v a r q view sound at got bound is out =
     let f : found_within v (calls_of es) ≡ None = looked_up es t v sound ∙ ap (λ x. bound_in x (activation_in (calls_of es))) (sym got) ∙ ap (λ x. bound_in s x) (sym at) ∙ sym bound ∙ is in
-    subst (λ n. q ≡ standing_of v n) view (out ∙ filed v ∙ ap (λ x. or_else x (found_in v b)) (sym f))
+    subst (λ n. q ≡ standing_of v n) view (out ∙ ap (λ x. or_else x (found_in v b)) (sym f))
 
 -- ---- the end of a call
 
@@ -201,15 +197,6 @@ bound_here n b es new t v j a d before view is sound at deep in_table was pushed
       deep = deep ∙ sym (deep_call (with_bound (record { variable = v; instance = j })) (calls_of (reverse es))) ∙ ap (λ x. length (calls_of x)) (sym back);
     }
 
-filed_at : (bs : List Bound) (t : List (Option ℕ)) (w j v : ℕ) → IsFiled bs t → w < length t → (same : Bool) → nat_eq w v ≡ same → get_or (slice_set t w (Some j)) v None ≡ (if same then Some j else found_in v bs)
-filed_at bs t w j v filed in_table true e = let P : ℕ → Type 0 = λ v. get_or (slice_set t w (Some j)) v None ≡ Some j in subst P (eqb-true w v e) (get_or-set_same t w (Some j) None in_table)
-filed_at bs t w j v filed in_table false e = get_or-set_other t w v (Some j) None (λ f. eqb-false w v e (sym f)) ∙ filed v
-
-pub filed_here : (fs new : List Filed) (t : List (Option ℕ)) (w j : ℕ) → IsFiled (file_of (reverse fs)) t → w < length t → new ≡ fs ++ record { variable = w; instance = j } ∷ [] → IsFiled (file_of (reverse new)) (slice_set t w (Some j))
-filed_here fs new t w j filed in_table pushed =
-    let back : reverse new ≡ record { variable = w; instance = j } ∷ reverse fs = ap reverse pushed ∙ newest fs (record { variable = w; instance = j }) in
-    subst (λ x. IsFiled (file_of x) (slice_set t w (Some j))) (sym back) (λ v. filed_at (file_of (reverse fs)) t w j v filed in_table (nat_eq w v) refl)
-
 pub undone_here : (n : Naming) (b : List Bound) (es new : List Entry) (t : List Standing) (v j : ℕ) (before : Standing) → record { file = b; calls = calls_of (reverse es) } ≡ n → Sound (reverse es) t → es ≡ new ++ entry.Name v j before ∷ [] → Undone (Some j) n (record { file = b; calls = calls_of (reverse new) })
 undone_here n b es new t v j before view sound items =
     let back : reverse es ≡ entry.Name v j before ∷ reverse new = ap reverse items ∙ newest new (entry.Name v j before) in
@@ -227,3 +214,25 @@ earlier n b es new t (Some e) view items sound =
     subst (λ (x : Naming). activation_in (calls_of (reverse new)) ≤ activation_in x.calls) view (subst (λ x. activation_in (calls_of (reverse new)) ≤ activation_in (calls_of x)) (sym back) (earlier_at e (reverse new) t (subst (λ x. Sound x t) back sound)))
 earlier n b es new t None view items sound =
     subst (λ (x : Naming). activation_in (calls_of (reverse new)) ≤ activation_in x.calls) view (subst (λ x. activation_in (calls_of (reverse new)) ≤ activation_in (calls_of (reverse x))) (sym (items ∙ append-nil new)) (omega arith))
+
+-- ---- the active function
+
+same_function : (f : List (List Bound) → List (List Bound)) (cs : List Call) → function_in (in_call f cs) ≡ function_in cs
+same_function f [] = refl
+same_function f (c ∷ cs) = refl
+
+call_first : (x : Entry) (es : List Entry) (f : ℕ) → called x ≡ Some f → function_in (calls_of (x ∷ es)) ≡ f
+call_first (entry.Call f a o) es g e = cc
+call_first entry.Scope es g e = cc
+call_first (entry.Name v j b) es g e = cc
+
+no_call_first : (x : Entry) (es : List Entry) → called x ≡ None → function_in (calls_of (x ∷ es)) ≡ function_in (calls_of es)
+no_call_first (entry.Call f a o) es e = cc
+no_call_first entry.Scope es e = same_function opened (calls_of es)
+no_call_first (entry.Name v j b) es e = same_function (with_bound (record { variable = v; instance = j })) (calls_of es)
+
+pub some_call : (es rest : List Entry) (x : Entry) (f : ℕ) → es ≡ rest ++ x ∷ [] → called x ≡ Some f → function_in (calls_of (reverse es)) ≡ f
+some_call es rest x f e is = ap (λ x. function_in (calls_of (reverse x))) e ∙ ap (λ x. function_in (calls_of x)) (newest rest x) ∙ call_first x (reverse rest) f is
+
+pub no_call : (es rest : List Entry) (x : Entry) → es ≡ rest ++ x ∷ [] → called x ≡ None → function_in (calls_of (reverse es)) ≡ function_in (calls_of (reverse rest))
+no_call es rest x e is = ap (λ x. function_in (calls_of (reverse x))) e ∙ ap (λ x. function_in (calls_of x)) (newest rest x) ∙ no_call_first x (reverse rest) is

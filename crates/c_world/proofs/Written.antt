@@ -8,15 +8,6 @@ use Rattle.c_store.specs.declared.value.Fault.{Fault}
 use Rattle.c_store.specs.declared.value.Fault.TheVariants.{WriteLiteral, OutOfBounds}
 use Rattle.c_store.specs.Cells.{Cells, Slot, cell_of, is_inside, find, replace, with_value, element_in, element_of, write_in, write_of, IsWritten, IsLive}
 use Rattle.std.proofs.Common.{OnErr}
-use Rattle.atac_base.specs.declared.probes.Event.{Event}
-use Rattle.c_syntax.specs.declared.tree.Named.{Named}
-use Rattle.c_meaning.specs.declared.end.Flow.TheVariants.{Next}
-use Rattle.c_meaning.specs.State.{State}
-use Rattle.c_meaning.specs.Results.{Gives, then_do}
-use Rattle.c_meaning.specs.Firsts.{quiet}
-use Rattle.c_meaning.specs.Places.{whole, logs, log_def}
-use Rattle.c_meaning.specs.Declarations.{name_marks, scalar_written}
-use Rattle.c_world.specs.Steps.{told}
 use Rattle.c_world.specs.Lives.{Living}
 use Rattle.c_world.proofs.Made.{living_on}
 
@@ -105,10 +96,3 @@ pub record Kept (c d : Cells) (js : List ℕ) : Type 0 where
 pub either : (c d : Cells) (p : Pointer) (v : Value) (js : List ℕ) (r : Result (Unit {0}) Fault) → IsWritten r d (write_of c p v) → OnErr r (d ≡ c) → Living (suc c.count) js c → Kept c d js
 either c d p v js (Ok u) is kept living = let a = written c d p v is in record { most = a.most; count = a.count; living = written_living c d p v js is living }
 either c d p v js (Err fault) is kept living = subst (λ x. Kept c x js) (sym kept) (record { most = refl; count = refl; living = living })
-
--- ---- the cell of a scalar
-
-pub scalar_told : (x : Option Named) (j : ℕ) (q : Pointer) (v : Value) (s : State) (d : Cells) (a b : Bool) (l : List Event) → q ≡ whole j 1 → write_of s.store q v ≡ Ok d → a ≡ b → told a v (record s { store = d; log = l }) ≡ logs (log_def (whole j 1)) (name_marks x) (record s { store = d }) (λ s. Gives v s) → scalar_written x (quiet 0) j v s ≡ then_do (told b v (record s { store = d; log = l })) (λ v s. Gives Next s)
-scalar_told x j q v s d a b l at e same tells =
-    let k : write_of s.store (whole j 1) v ≡ Ok d = ap (λ q. write_of s.store q v) (sym at) ∙ e in
-    rw k (ap (λ r. then_do r (λ v s. Gives Next s)) (sym tells ∙ ap (λ b. told b v (record s { store = d; log = l })) same))

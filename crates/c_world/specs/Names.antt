@@ -1,10 +1,9 @@
 -- What names stand for, and the trail of bindings from which it is known.
-use Rattle.std.specs.Prelude.{◌≡◌, ℕ, ◌<◌, ◌≤◌, nat_eq, List, [], ◌∷◌, length, get_or, slice_set, Option, Some, None, if◌then◌else◌}
+use Rattle.std.specs.Prelude.{◌≡◌, ℕ, suc, ◌-◌, ◌<◌, ◌≤◌, nat_eq, List, [], ◌∷◌, length, get_or, slice_set, Option, Some, None, if◌then◌else◌}
 use Rattle.c_meaning.specs.State.{Bound, Call, activation_in, found_in, found_within, or_else, with_bound, in_call, opened, top_within}
 use Rattle.c_world.specs.declared.names.Standing.{Standing}
 use Rattle.c_world.specs.declared.names.Entry.{Entry}
 use Rattle.c_world.specs.declared.names.Entry.TheVariants as entry
-use Rattle.c_world.specs.declared.names.Filed.{Filed}
 
 -- the variables of file scope, and the active calls
 pub record Naming : Type 0 where
@@ -26,6 +25,19 @@ abbrev pub scopes_in : List Call → List (List Bound)
 scopes_in [] = []
 scopes_in (c ∷ rest) = c.scopes
 
+-- how many scopes each call has, and that with one more or one less in the innermost call
+abbrev pub scope_counts : List Call → List ℕ
+scope_counts [] = []
+scope_counts (c ∷ rest) = length c.scopes ∷ scope_counts rest
+
+abbrev pub one_more : List ℕ → List ℕ
+one_more [] = []
+one_more (n ∷ ns) = suc n ∷ ns
+
+abbrev pub one_less : List ℕ → List ℕ
+one_less [] = []
+one_less (n ∷ ns) = (n - 1) ∷ ns
+
 -- ---- one binding of the innermost scope is undone
 
 abbrev pub with_name : Bound → Naming → Naming
@@ -43,6 +55,11 @@ calls_of (entry.Call f a outer ∷ rest) = record { function = f; activation = a
 calls_of (entry.Scope ∷ rest) = in_call opened (calls_of rest)
 calls_of (entry.Name v j before ∷ rest) = in_call (with_bound (record { variable = v; instance = j })) (calls_of rest)
 
+-- the function whose call an entry begins
+abbrev pub called : Entry → Option ℕ
+called (entry.Call f a outer) = Some f
+called e = None
+
 abbrev pub nowhere : Standing
 nowhere = record { instance = 0; activation = 0 }
 
@@ -56,12 +73,3 @@ Sound (entry.Name v j before ∷ rest) t = IsActive (calls_of rest) × (v < leng
 -- the instance, where it is bound in this activation; 0 is none
 abbrev pub bound_in : Standing → ℕ → Option ℕ
 bound_in s a = if nat_eq s.activation a then (if nat_eq a 0 then None else Some s.instance) else None
-
--- ---- file scope, the last one first
-
-abbrev pub file_of : List Filed → List Bound
-file_of [] = []
-file_of (f ∷ rest) = record { variable = f.variable; instance = f.instance } ∷ file_of rest
-
-abbrev pub IsFiled : List Bound → List (Option ℕ) → Type 0
-IsFiled bs t = (v : ℕ) → get_or t v None ≡ found_in v bs

@@ -1,5 +1,5 @@
--- A world as a state of the definition, in which nothing is observed and so much was logged.
-use Rattle.std.specs.Prelude.{◌≡◌, List, [], Option, Some, None}
+-- A world as a state of the definition, in which nothing is observed, and so much was told before what is pending.
+use Rattle.std.specs.Prelude.{◌≡◌, ◌++◌, List, [], Option, Some, None}
 use Rattle.atac_base.specs.declared.probes.Event.{Event}
 use Rattle.c_tree.specs.Tables.{TablesShape, tables_shape}
 use Rattle.c_meaning.specs.declared.end.Stop.{Stop}
@@ -19,7 +19,7 @@ state_of w h = record {
   last = w.last;
   calls = w.names.calls;
   deeds = [];
-  log = h;
+  log = h ++ w.pending.items;
 }
 
 abbrev pub tables_of : World → TablesShape

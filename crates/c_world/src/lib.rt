@@ -3,4 +3,5 @@
 
 pub mod answers;
 pub mod names;
+pub mod places;
 pub mod world;

@@ -1,9 +1,10 @@
-ghost use Rattle.std.specs.Prelude.{◌≡◌, ◌<◌, List, length, get_or, None, OnOk};
-ghost use Rattle.c_meaning.specs.State.{Bound};
+ghost use Rattle.std.specs.Prelude.{◌≡◌, ◌<◌, List, length, get_or, reverse, OnOk};
+ghost use Rattle.c_meaning.specs.State.{function_in};
 ghost use Rattle.c_world.specs.declared.names.Entry.{Entry};
-ghost use Rattle.c_world.specs.Names.{bound_in, nowhere, Sound, IsFiled};
+ghost use Rattle.c_world.specs.Names.{calls_of, called, bound_in, nowhere, Sound};
 
 use atac_base::place::NoMemory;
+use c_initials::filing::Filing;
 use std::alloc::Global;
 use std::marker::Model;
 
@@ -23,19 +24,11 @@ pub enum Entry {
     Name(u32, u64, Standing),
 }
 
-/// A variable of file scope and its instance.
-#[derive(Clone, Copy, Drop)]
-pub struct Filed {
-    pub variable: u32,
-    pub instance: u64,
-}
-
 /// What names stand for: the variables of file scope, and the active calls with their scopes (C89, 3.1.2.1). A variable
 /// is found by its number in a table, and the end of a scope undoes its bindings.
 #[derive(Drop)]
 pub struct Names {
-    filed: Vec<Filed>,
-    files: Vec<Option<u64>>,
+    filing: Filing,
     entries: Vec<Entry>,
     locals: Vec<Standing>,
     activation: u64,
@@ -45,27 +38,26 @@ pub struct Names {
 impl Model for Names {
     ghost use Rattle.std.specs.Prelude.{◌≡◌, length, reverse};
     ghost use Rattle.c_meaning.specs.State.{activation_in};
-    ghost use Rattle.c_world.specs.Names.{Naming, calls_of, file_of, Sound, IsFiled};
+    ghost use Rattle.c_world.specs.Names.{Naming, calls_of, Sound};
 
     ghost Value = { Naming };
 
-    ghost view = { λ s. record { file = file_of (reverse s.filed.items); calls = calls_of (reverse s.entries.items) } };
+    ghost view = { λ s. record { file = s.filing; calls = calls_of (reverse s.entries.items) } };
 
-    ghost invariant = { λ s. Sound (reverse s.entries.items) s.locals.items × IsFiled (file_of (reverse s.filed.items)) s.files.items × (s.activation ≡ activation_in (calls_of (reverse s.entries.items))) × (s.depth ≡ length (calls_of (reverse s.entries.items))) };
+    ghost invariant = { λ s. Sound (reverse s.entries.items) s.locals.items × (s.activation ≡ activation_in (calls_of (reverse s.entries.items))) × (s.depth ≡ length (calls_of (reverse s.entries.items))) };
 }
 
 impl Names {
     ghost use Rattle.std.specs.Prelude.{◌≡◌, ◌<◌, ◌≤◌, [], ◌∷◌, length, OnOk, OnErr};
-    ghost use Rattle.c_meaning.specs.State.{activation_in, in_call, opened, tail_of, top_within};
-    ghost use Rattle.c_world.specs.Names.{standing_of, with_name, Undone, IsActive, scopes_in};
+    ghost use Rattle.c_meaning.specs.State.{activation_in, function_in, in_call, opened, tail_of, top_within};
+    ghost use Rattle.c_world.specs.Names.{standing_of, with_name, Undone, IsActive, scopes_in, scope_counts};
 
     /// No name, and no active call.
     pub fn new(alloc: Global) -> Names
         ensures { result ≡ record { file = []; calls = [] } }
     {
         Names {
-            filed: Vec::new(alloc),
-            files: Vec::new(alloc),
+            filing: Filing::new(alloc),
             entries: Vec::new(alloc),
             locals: Vec::new(alloc),
             activation: 0,
@@ -80,7 +72,7 @@ impl Names {
     {
         match bound_in(local(&self.locals, variable), self.activation) {
             Some(instance) => Some(instance),
-            None => file_instance(&self.files, variable),
+            None => self.filing.instance(variable),
         }
     }
 
@@ -92,7 +84,15 @@ impl Names {
         self.activation
     }
 
+    /// The function that is active; 0 where none is. It is looked for among the entries of the active call.
+    pub fn function(&self) -> u32
+        ensures { result ≡ function_in self.now.calls }
+    {
+        last_function(&self.entries)
+    }
+
     /// How many calls are active.
+    #[inline(always)]
     pub fn depth(&self) -> u32
         ensures { result ≡ length self.now.calls }
     {
@@ -131,25 +131,26 @@ impl Names {
         }
     }
 
+    /// The variables of file scope.
+    pub fn filing(&self) -> &Filing
+        ensures { result.now ≡ self.now.file }
+    {
+        &self.filing
+    }
+
     /// The variable of that number stands for the instance at file scope.
     pub fn bind_file(&mut self, variable: u32, instance: u64) -> Result<(), NoMemory>
         ensures bound { OnOk result (self.new ≡ record self.old { file = record { variable = variable; instance = instance } ∷ self.old.file }) }
         ensures kept { OnErr result (self.new ≡ self.old) }
     {
-        reach_file(&mut self.files, variable)?;
-        match self.filed.push(Filed { variable, instance }) {
-            Ok(()) => {
-                self.files[variable as usize] = Some(instance);
-                Ok(())
-            }
-            Err(_) => Err(NoMemory),
-        }
+        self.filing.bind(variable, instance)
     }
 
     /// Binds the variable of that number to the instance in the innermost scope of the active call.
     pub fn bind(&mut self, variable: u32, instance: u64) -> Result<(), NoMemory>
         requires { IsActive self.old.calls }
         ensures bound { OnOk result (self.new ≡ with_name (record { variable = variable; instance = instance }) self.old) }
+        ensures counts { OnOk result (scope_counts self.new.calls ≡ scope_counts self.old.calls) }
         ensures kept { OnErr result (self.new ≡ self.old) }
     {
         reach(&mut self.locals, variable)?;
@@ -218,14 +219,28 @@ fn local(locals: &[Standing], variable: u32) -> Standing
     }
 }
 
-// The instance of a variable of file scope.
-#[inline(always)]
-fn file_instance(files: &[Option<u64>], variable: u32) -> Option<u64>
-    ensures { result ≡ get_or files.now variable None }
+// The function of the last call that the entries begin; 0 where they begin none.
+#[tactic(auto, using(crate::proofs::Trails::some_call, crate::proofs::Trails::no_call))]
+fn last_function(entries: &[Entry]) -> u32
+    ensures { result ≡ function_in (calls_of (reverse entries.now)) }
 {
-    match files.get(variable as usize) {
-        Some(instance) => *instance,
-        None => None,
+    let mut entries = entries;
+    while let Some((last, others)) = entries.split_last() {
+        if let Some(function) = called(last) {
+            return function;
+        }
+        entries = others;
+    }
+    0
+}
+
+// The function whose call an entry begins.
+fn called(entry: &Entry) -> Option<u32>
+    ensures { result ≡ called entry.now }
+{
+    match entry {
+        Entry::Call(function, _, _) => Some(*function),
+        Entry::Scope | Entry::Name(_, _, _) => None,
     }
 }
 
@@ -253,21 +268,6 @@ fn reach(locals: &mut Vec<Standing>, variable: u32) -> Result<(), NoMemory>
             activation: 0,
         };
         match locals.push(standing) {
-            Ok(()) => {}
-            Err(_) => return Err(NoMemory),
-        }
-    }
-    Ok(())
-}
-
-// The same for file scope.
-#[tactic(auto, using(crate::proofs::Trails::grown_file))]
-fn reach_file(files: &mut Vec<Option<u64>>, variable: u32) -> Result<(), NoMemory>
-    ensures reached { OnOk result (variable < length files.new.items) }
-    ensures filed { (bs : List Bound) → IsFiled bs files.old.items → IsFiled bs files.new.items }
-{
-    while files.len() <= variable as usize {
-        match files.push(None) {
             Ok(()) => {}
             Err(_) => return Err(NoMemory),
         }

@@ -6,14 +6,14 @@ ghost use Rattle.c_syntax.specs.Shape.{LengthShapes, declarator, arrays, no_init
 ghost use Rattle.c_meaning.specs.Firsts.{quiet};
 ghost use Rattle.c_meaning.specs.Knot.{Knot};
 ghost use Rattle.c_meaning.specs.Declarations.{declared_name};
-ghost use Rattle.c_world.specs.Names.{IsActive};
+ghost use Rattle.c_world.specs.Names.{IsActive, scope_counts};
 ghost use Rattle.c_world.specs.Steps.{placed, placed_at, placed_or, declared, made_variable};
 ghost use Rattle.c_world.specs.World.{state_of, tables_of, answered, Same};
 
 use super::World;
 use crate::answers::Placed;
-use c_compute::layout::variable_cells;
 use atac_base::place::NoMemory;
+use c_compute::layout::variable_cells;
 use c_meaning::end::Stop;
 use c_store::value::{Fault, MakeErr};
 
@@ -26,6 +26,7 @@ impl<'p> World<'p> {
         ensures named { IfOk result (λ r. (h : List Event) (k : Knot) (stars : List Star) (x : Option Named) (ls : LengthShapes) (n : ℕ) → variable ≡ suc n → declared_name (tables_of self.old) k (declarator stars x (arrays ls) no_init) (quiet n) (state_of self.old h) ≡ answered r (state_of self.new h)) }
         ensures same { Same self.old self.new }
         ensures active { OnOk result (IsActive self.new.names.calls) }
+        ensures counts { OnOk result (scope_counts self.new.names.calls ≡ scope_counts self.old.names.calls) }
     {
         let stopped = self.take_declarator(variable)?;
         Ok(stopped)
@@ -36,6 +37,7 @@ impl<'p> World<'p> {
         ensures done { IfOk result (λ r. (h : List Event) → declared (tables_of self.old) variable (state_of self.old h) ≡ answered r (state_of self.new h)) }
         ensures same { Same self.old self.new }
         ensures active { OnOk result (IsActive self.new.names.calls) }
+        ensures counts { OnOk result (scope_counts self.new.names.calls ≡ scope_counts self.old.names.calls) }
     {
         if variable == 0 || variable > self.program.tables().variables() {
             return Ok(Some(Stop::Fault(Fault::NoResult)));
@@ -58,6 +60,7 @@ impl<'p> World<'p> {
         ensures done { IfOk result (λ r. (h : List Event) → made_variable (tables_of self.old) variable (state_of self.old h) ≡ placed_or r (state_of self.new h)) }
         ensures same { Same self.old self.new }
         ensures active { OnOk result (IsActive self.new.names.calls) }
+        ensures counts { OnOk result (scope_counts self.new.names.calls ≡ scope_counts self.old.names.calls) }
     {
         if variable == 0 || variable > self.program.tables().variables() {
             return Ok(Placed::Stopped(Stop::Fault(Fault::NoResult)));
@@ -75,6 +78,7 @@ impl<'p> World<'p> {
         ensures done { IfOk result (λ r. (h : List Event) → placed variable cells (state_of self.old h) ≡ placed_at r (state_of self.new h)) }
         ensures same { Same self.old self.new }
         ensures active { OnOk result (IsActive self.new.names.calls) }
+        ensures counts { OnOk result (scope_counts self.new.names.calls ≡ scope_counts self.old.names.calls) }
     {
         if self.made == u64::MAX {
             return Err(NoMemory);

@@ -1,41 +1,49 @@
-ghost use Rattle.std.specs.Prelude.{◌≡◌, ◌++◌, ◌<◌, List, length, IfOk, OnOk, None};
+ghost use Rattle.std.specs.Prelude.{◌≡◌, ◌<◌, List, ◌∷◌, length, option_map, IfOk, OnOk, None};
 ghost use Rattle.atac_base.specs.declared.probes.Event.{Event};
 ghost use Rattle.c_syntax.specs.View.{decl_form_shape, params_shape, param_shape, param_list};
 ghost use Rattle.c_meaning.specs.Firsts.{quiet};
 ghost use Rattle.c_meaning.specs.Counts.{decl_variables};
-ghost use Rattle.c_meaning.specs.Calls.{Routine, given, given_params, given_all, activated, entered};
-ghost use Rattle.c_world.specs.Names.{IsActive};
+ghost use Rattle.c_meaning.specs.Calls.{routine, given, given_params, given_all, activated, entered};
+ghost use Rattle.c_meaning.specs.Runs.{silent};
+ghost use Rattle.c_routines.specs.Routines.{source_of, routine_of};
+ghost use Rattle.c_world.specs.Names.{IsActive, scope_counts};
 ghost use Rattle.c_world.specs.Steps.{given_one};
 ghost use Rattle.c_world.specs.World.{state_of, tables_of, answered, Same};
 
 use super::World;
 use crate::answers::Placed;
 use atac_base::place::NoMemory;
-use atac_base::probes::Probes;
 use c_meaning::end::Stop;
+use c_routines::routines::Routine;
 use c_store::value::{Fault, Value};
 use c_syntax::tree::{DeclForm, Param, Params};
 
 impl<'p> World<'p> {
-    /// Begins a call of the function with this parameter list, behind so many variables of the program: the next activation
-    /// is active, its parameters are made and the arguments, already converted, are written. Depth or Room comes exactly
-    /// where the definition stops there.
-    pub fn enter<P: Probes>(
+    /// The function of that number; None where none with a body has it. It is found at once.
+    #[inline(always)]
+    pub fn routine(&self, function: u32) -> Option<Routine<'p>>
+        ensures { option_map routine_of result ≡ routine (source_of self.now.program.now) silent function }
+    {
+        self.routines.find(self.program, function)
+    }
+
+    /// Begins a call of the function of that number: the next activation is active, its parameters are made and the arguments,
+    /// already converted, are written (C89, 3.3.2.2). Depth or Room comes exactly where the definition stops there.
+    pub fn enter(
         &mut self,
         function: u32,
-        params: &DeclForm,
-        before: u32,
+        routine: &Routine<'_>,
         args: &[Value],
-        probes: &mut P,
     ) -> Result<Option<Stop>, NoMemory>
-        ensures done { IfOk result (λ r. (h l : List Event) → P.stands_for probes.old (h ++ l) → (l' : List Event) × P.stands_for probes.new (h ++ l') × ((f : Routine) → f.params ≡ decl_form_shape params.now → f.first ≡ quiet before → entered (tables_of self.old) function f args.now (state_of self.old l) ≡ answered r (state_of self.new l'))) }
+        ensures done { IfOk result (λ r. (h : List Event) → entered (tables_of self.old) function (routine_of routine.now) args.now (state_of self.old h) ≡ answered r (state_of self.new h)) }
+        ensures counts { IfOk result (λ r. r ≡ None → scope_counts self.new.names.calls ≡ 1 ∷ scope_counts self.old.names.calls) }
         ensures same { Same self.old self.new }
     {
         if self.names.depth() >= 4000 {
             return Ok(Some(Stop::Depth));
         }
         self.activate(function)?;
-        let stopped = self.give_form(params, before, args, probes)?;
+        let stopped = self.give_form(routine.params, routine.before, args)?;
         Ok(stopped)
     }
 
@@ -45,6 +53,7 @@ impl<'p> World<'p> {
         ensures activated { OnOk result ((h : List Event) → state_of self.new h ≡ activated function (state_of self.old h)) }
         ensures same { Same self.old self.new }
         ensures active { OnOk result (IsActive self.new.names.calls) }
+        ensures counts { OnOk result (scope_counts self.new.names.calls ≡ 1 ∷ scope_counts self.old.names.calls) }
     {
         if self.last == u64::MAX {
             return Err(NoMemory);
@@ -55,40 +64,40 @@ impl<'p> World<'p> {
     }
 
     // Gives the parameters of a declarator their arguments.
-    fn give_form<P: Probes>(
+    fn give_form(
         &mut self,
         form: &DeclForm,
         before: u32,
         args: &[Value],
-        probes: &mut P,
     ) -> Result<Option<Stop>, NoMemory>
         requires { IsActive self.old.names.calls }
-        ensures done { IfOk result (λ r. (h l : List Event) → P.stands_for probes.old (h ++ l) → (l' : List Event) × P.stands_for probes.new (h ++ l') × (given_all (tables_of self.old) (decl_form_shape form.now) (quiet before) args.now (state_of self.old l) ≡ answered r (state_of self.new l'))) }
+        ensures done { IfOk result (λ r. (h : List Event) → given_all (tables_of self.old) (decl_form_shape form.now) (quiet before) args.now (state_of self.old h) ≡ answered r (state_of self.new h)) }
+        ensures counts { OnOk result (scope_counts self.new.names.calls ≡ scope_counts self.old.names.calls) }
         ensures same { Same self.old self.new }
     {
         match form {
             DeclForm::Function(params) => {
-                let stopped = self.give_params(params, before, args, probes)?;
+                let stopped = self.give_params(params, before, args)?;
                 Ok(stopped)
             }
             DeclForm::Arrays(_) => Ok(Some(Stop::Fault(Fault::NoResult))),
         }
     }
 
-    fn give_params<P: Probes>(
+    fn give_params(
         &mut self,
         params: &Params,
         before: u32,
         args: &[Value],
-        probes: &mut P,
     ) -> Result<Option<Stop>, NoMemory>
         requires { IsActive self.old.names.calls }
-        ensures done { IfOk result (λ r. (h l : List Event) → P.stands_for probes.old (h ++ l) → (l' : List Event) × P.stands_for probes.new (h ++ l') × (given_params (tables_of self.old) (params_shape params.now) (quiet before) args.now (state_of self.old l) ≡ answered r (state_of self.new l'))) }
+        ensures done { IfOk result (λ r. (h : List Event) → given_params (tables_of self.old) (params_shape params.now) (quiet before) args.now (state_of self.old h) ≡ answered r (state_of self.new h)) }
+        ensures counts { OnOk result (scope_counts self.new.names.calls ≡ scope_counts self.old.names.calls) }
         ensures same { Same self.old self.new }
     {
         match params {
             Params::List(list) => {
-                let stopped = self.give_all(list, before, args, probes)?;
+                let stopped = self.give_all(list, before, args)?;
                 Ok(stopped)
             }
             Params::Empty | Params::Void => {
@@ -101,15 +110,15 @@ impl<'p> World<'p> {
         }
     }
 
-    fn give_all<P: Probes>(
+    fn give_all(
         &mut self,
         params: &[Param],
         before: u32,
         args: &[Value],
-        probes: &mut P,
     ) -> Result<Option<Stop>, NoMemory>
         requires { IsActive self.old.names.calls }
-        ensures done { IfOk result (λ r. (h l : List Event) → P.stands_for probes.old (h ++ l) → (l' : List Event) × P.stands_for probes.new (h ++ l') × (given (tables_of self.old) (param_list params.now) (quiet before) args.now (state_of self.old l) ≡ answered r (state_of self.new l'))) }
+        ensures done { IfOk result (λ r. (h : List Event) → given (tables_of self.old) (param_list params.now) (quiet before) args.now (state_of self.old h) ≡ answered r (state_of self.new h)) }
+        ensures counts { OnOk result (scope_counts self.new.names.calls ≡ scope_counts self.old.names.calls) }
         ensures same { Same self.old self.new }
     {
         let mut params = params;
@@ -119,7 +128,7 @@ impl<'p> World<'p> {
             let Some((value, rest)) = args.split_first() else {
                 return Ok(Some(Stop::Fault(Fault::NoResult)));
             };
-            let stopped = self.give(param, before, *value, probes)?;
+            let stopped = self.give(param, before, *value)?;
             if stopped.is_some() {
                 return Ok(stopped);
             }
@@ -135,15 +144,10 @@ impl<'p> World<'p> {
     }
 
     // Makes the instance of the parameter behind so many variables, and writes its argument.
-    fn give<P: Probes>(
-        &mut self,
-        param: &Param,
-        before: u32,
-        value: Value,
-        probes: &mut P,
-    ) -> Result<Option<Stop>, NoMemory>
+    fn give(&mut self, param: &Param, before: u32, value: Value) -> Result<Option<Stop>, NoMemory>
         requires { IsActive self.old.names.calls }
-        ensures done { IfOk result (λ r. (h l : List Event) → P.stands_for probes.old (h ++ l) → (l' : List Event) × P.stands_for probes.new (h ++ l') × (given_one (tables_of self.old) (param_shape param.now) before value (state_of self.old l) ≡ answered r (state_of self.new l'))) }
+        ensures done { IfOk result (λ r. (h : List Event) → given_one (tables_of self.old) (param_shape param.now) before value (state_of self.old h) ≡ answered r (state_of self.new h)) }
+        ensures counts { OnOk result (scope_counts self.new.names.calls ≡ scope_counts self.old.names.calls) }
         ensures same { Same self.old self.new }
         ensures active { OnOk result (IsActive self.new.names.calls) }
         ensures one { IfOk result (λ r. r ≡ None → (decl_variables (param_shape param.now) ≡ 1) × (before < 4294967295)) }
@@ -156,7 +160,7 @@ impl<'p> World<'p> {
             DeclForm::Arrays(_) => match self.place_variable(before + 1)? {
                 Placed::Stopped(why) => Ok(Some(why)),
                 Placed::At(instance) => {
-                    let stopped = self.write_scalar(&param.name.name, instance, value, probes)?;
+                    let stopped = self.write_scalar(&param.name.name, instance, value)?;
                     Ok(stopped)
                 }
             },

@@ -1,11 +1,10 @@
-ghost use Rattle.std.specs.Prelude.{◌≡◌, ◌++◌, List, IfOk, OnErr};
+ghost use Rattle.std.specs.Prelude.{◌≡◌, List, IfOk};
 ghost use Rattle.atac_base.specs.declared.probes.Event.{Event};
 ghost use Rattle.c_world.specs.Steps.{filled_one};
 ghost use Rattle.c_world.specs.World.{state_of, tables_of, answered, Same};
 
 use super::World;
 use atac_base::place::NoMemory;
-use atac_base::probes::Probes;
 use c_compute::operators::converted;
 use c_meaning::end::Stop;
 use c_store::value::{Fault, Value};
@@ -13,16 +12,14 @@ use c_syntax::tree::Named;
 
 impl<'p> World<'p> {
     /// Writes the value of an initialiser, converted to the variable's type (C89, 3.5.7), into the variable's cell, and
-    /// tells the probe round its declared name. After an `Err` the probes stand for what they stood for.
-    pub fn fill<P: Probes>(
+    /// tells the probe round its declared name.
+    pub fn fill(
         &mut self,
         variable: u32,
         name: &Option<Named>,
         value: Value,
-        probes: &mut P,
     ) -> Result<Option<Stop>, NoMemory>
-        ensures done { IfOk result (λ r. (h l : List Event) → P.stands_for probes.old (h ++ l) → (l' : List Event) × P.stands_for probes.new (h ++ l') × (filled_one (tables_of self.old) variable name.now value (state_of self.old l) ≡ answered r (state_of self.new l'))) }
-        ensures kept { OnErr result ((h : List Event) → P.stands_for probes.old h → P.stands_for probes.new h) }
+        ensures done { IfOk result (λ r. (h : List Event) → filled_one (tables_of self.old) variable name.now value (state_of self.old h) ≡ answered r (state_of self.new h)) }
         ensures same { Same self.old self.new }
         ensures names { self.new.names ≡ self.old.names }
     {
@@ -33,7 +30,7 @@ impl<'p> World<'p> {
             None => Ok(Some(Stop::Fault(Fault::NoResult))),
             Some(instance) => {
                 let value = converted(&self.program.tables().variable(variable).kind, value);
-                let stopped = self.write_scalar(name, instance, value, probes)?;
+                let stopped = self.write_scalar(name, instance, value)?;
                 Ok(stopped)
             }
         }

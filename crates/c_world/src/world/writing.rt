@@ -1,85 +1,108 @@
-ghost use Rattle.std.specs.Prelude.{◌≡◌, ◌++◌, List, IfOk, OnErr};
+ghost use Rattle.std.specs.Prelude.{◌≡◌, List, IfOk, OnErr};
 ghost use Rattle.atac_base.specs.declared.probes.Event.{Event};
-ghost use Rattle.c_store.specs.declared.value.Value.{Value};
-ghost use Rattle.c_meaning.specs.State.{State};
-ghost use Rattle.c_meaning.specs.Results.{Gives};
+ghost use Rattle.c_store.specs.Cells.{read_of, write_of, IsWritten};
 ghost use Rattle.c_meaning.specs.Firsts.{quiet};
-ghost use Rattle.c_meaning.specs.Places.{whole, logs, log_def};
-ghost use Rattle.c_meaning.specs.Declarations.{name_marks, scalar_written};
-ghost use Rattle.c_world.specs.Steps.{told};
+ghost use Rattle.c_meaning.specs.Declarations.{scalar_written};
+ghost use Rattle.c_world.specs.Steps.{name_site, marked, stored_at};
 ghost use Rattle.c_world.specs.World.{state_of, answered, Same};
 
 use super::World;
-use atac_base::place::{Cell, NoMemory};
-use atac_base::probes::{Event, Probes};
+use crate::answers::Site;
+use crate::places::{cell_at, whole};
+use atac_base::place::NoMemory;
+use atac_base::probes::Event;
 use c_meaning::end::Stop;
 use c_store::value::{Fault, Pointer, Value};
 use c_syntax::tree::Named;
 use c_values::probes::probe_number;
 
 impl<'p> World<'p> {
-    // Writes the cell of a scalar's instance, and tells the probe round its declared name. After an `Err` the probes stand
-    // for what they stood for.
-    pub(super) fn write_scalar<P: Probes>(
+    /// The value in a cell.
+    #[inline(always)]
+    pub fn read(&self, at: Pointer) -> Result<Value, Fault>
+        ensures { result ≡ read_of self.now.store at }
+    {
+        self.store.read(at)
+    }
+
+    /// Writes a cell. After an `Err` the store is as it was.
+    #[inline(always)]
+    pub fn write(&mut self, at: Pointer, value: Value) -> Result<(), Fault>
+        ensures is { IsWritten result self.new.store (write_of self.old.store at value) }
+        ensures kept { OnErr result (self.new.store ≡ self.old.store) }
+        ensures state { (h : List Event) → state_of self.new h ≡ record (state_of self.old h) { store = self.new.store } }
+        ensures same { Same self.old self.new }
+        ensures names { self.new.names ≡ self.old.names }
+        ensures turns { self.new.turns ≡ self.old.turns }
+    {
+        self.store.write(at, value)
+    }
+
+    // Writes the cell of a scalar's instance, and logs for the probe round its declared name.
+    pub(super) fn write_scalar(
         &mut self,
         name: &Option<Named>,
         instance: u64,
         value: Value,
-        probes: &mut P,
     ) -> Result<Option<Stop>, NoMemory>
-        ensures done { IfOk result (λ r. (h l : List Event) → P.stands_for probes.old (h ++ l) → (l' : List Event) × P.stands_for probes.new (h ++ l') × (scalar_written name.now (quiet 0) instance value (state_of self.old l) ≡ answered r (state_of self.new l'))) }
-        ensures kept { OnErr result ((h : List Event) → P.stands_for probes.old h → P.stands_for probes.new h) }
+        ensures done { IfOk result (λ r. (h : List Event) → scalar_written name.now (quiet 0) instance value (state_of self.old h) ≡ answered r (state_of self.new h)) }
         ensures same { Same self.old self.new }
         ensures names { self.new.names ≡ self.old.names }
     {
-        match self.store.write(whole(instance), value) {
+        let stopped = self.write_marked(name_site(name), whole(instance, 1), value)?;
+        Ok(stopped)
+    }
+
+    // Writes a cell, and logs that it is defined at the site.
+    pub(super) fn write_marked(
+        &mut self,
+        site: Site,
+        at: Pointer,
+        value: Value,
+    ) -> Result<Option<Stop>, NoMemory>
+        ensures done { IfOk result (λ r. (h : List Event) → stored_at site at value (state_of self.old h) ≡ answered r (state_of self.new h)) }
+        ensures same { Same self.old self.new }
+        ensures names { self.new.names ≡ self.old.names }
+    {
+        match self.write(at, value) {
             Err(fault) => Ok(Some(Stop::Fault(fault))),
             Ok(()) => {
-                if tell_scalar(probes, name, instance)? {
-                    Ok(None)
-                } else {
-                    Ok(Some(Stop::Fault(Fault::NoResult)))
-                }
+                let stopped = self.log_marked(site, at)?;
+                Ok(stopped)
+            }
+        }
+    }
+
+    // Logs that the cell is defined at the site.
+    fn log_marked(&mut self, site: Site, at: Pointer) -> Result<Option<Stop>, NoMemory>
+        ensures done { IfOk result (λ r. (h : List Event) → marked site at (state_of self.old h) ≡ answered r (state_of self.new h)) }
+        ensures same { Same self.old self.new }
+        ensures names { self.new.names ≡ self.old.names }
+    {
+        match site {
+            Site::Unmarked => Ok(None),
+            Site::Unclear => Ok(Some(Stop::Fault(Fault::NoResult))),
+            Site::Marked(site) => {
+                let cell = cell_at(at)?;
+                self.log(Event::Def(site, cell))?;
+                Ok(None)
             }
         }
     }
 }
 
-// A pointer to the only cell of an instance.
-#[inline(always)]
-fn whole(instance: u64) -> Pointer
-    ensures { result ≡ whole instance 1 }
-{
-    Pointer {
-        instance,
-        base: 0,
-        length: 1,
-        size: 1,
-        index: 0,
-    }
-}
-
-// Tells the probe round a declared name that the cell of its scalar is defined; false at a probe without a number.
-fn tell_scalar<P: Probes>(
-    probes: &mut P,
-    name: &Option<Named>,
-    instance: u64,
-) -> Result<bool, NoMemory>
-    ensures told { IfOk result (λ r. (h l : List Event) → P.stands_for probes.old (h ++ l) → (l' : List Event) × P.stands_for probes.new (h ++ l') × ((s : State) (v : Value) → told r v (record s { log = l' }) ≡ logs (log_def (whole instance 1)) (name_marks name.now) (record s { log = l }) (λ s. Gives v s))) }
-    ensures kept { OnErr result ((h : List Event) → P.stands_for probes.old h → P.stands_for probes.new h) }
+// What stands round a declared name.
+pub(super) fn name_site(name: &Option<Named>) -> Site
+    ensures { result ≡ name_site name.now }
 {
     let Some(named) = name else {
-        return Ok(true);
+        return Site::Unmarked;
     };
     let Some(mark) = &named.probe else {
-        return Ok(true);
+        return Site::Unmarked;
     };
     match probe_number(mark.number.bytes()) {
-        None => Ok(false),
-        Some(site) => {
-            let cell = Cell { instance, index: 0 };
-            probes.see(Event::Def(site, cell))?;
-            Ok(true)
-        }
+        None => Site::Unclear,
+        Some(site) => Site::Marked(site),
     }
 }

@@ -3,6 +3,5 @@ use Rattle.c_world.proofs.Given.{given_list}
 use Rattle.c_world.proofs.world.World.give_params.Goals as goal
 
 pub returns-in_ok-stopped-in-List-clause-done : goal.returns-in_ok-stopped-in-List-clause-done
-returns-in_ok-stopped-in-List-clause-done g c = λ h l at.
-    let w = c.in_ok-stopped-in-List.ensures.done h l at in
-    (w.0, w.1, given_list (tables_of c.args.self.now) c.args.params.now c.in-List.list c.deref.result.now c.args.before c.args.args.now (state_of c.args.self.now l) (answered c.in_ok-stopped-in-List.stopped (state_of c.give_all.new.self w.0)) c.in-List.is c.deref.ensures.value w.2)
+returns-in_ok-stopped-in-List-clause-done c = λ h.
+    given_list (tables_of c.args.self.now) c.args.params.now c.in-List.list c.deref.result.now c.args.before c.args.args.now (state_of c.args.self.now h) (answered c.in_ok-stopped-in-List.stopped (state_of c.give_all.new.self h)) c.in-List.is c.deref.ensures.value (c.in_ok-stopped-in-List.ensures.done h)

@@ -20,5 +20,6 @@ loop-i-preserved c =
     let none : is_some c.in_ok-stopped.stopped ≡ false = sym c.if-is_some.ensures in
     record {
       made = λ h. literals_next (tables_of c.args.self.now).literals (tables_of c.loop-i.self).literals c.loop-i.i c.in_ok-stopped.stopped (state_of c.loop-i.self h) (state_of c.make_literal.new.self h) inside (ap (λ (p : Program). (tables_shape p.tables).literals) c.loop-i.invariant.same.program) (c.in_ok-stopped.ensures.done h) none ∙ c.loop-i.invariant.made h;
+      names = c.make_literal.ensures.names ∙ c.loop-i.invariant.names;
       same = record { program = c.make_literal.ensures.same.program ∙ c.loop-i.invariant.same.program; limit = c.make_literal.ensures.same.limit ∙ c.loop-i.invariant.same.limit };
     }

@@ -8,4 +8,5 @@ abbrev pub invariant-loop-i : goal.invariant-loop-i
 invariant-loop-i l = record {
   made : (h : List Event) → literals_made (drop l.i (tables_of l.fn.self).literals) (state_of l.self h) ≡ literals_made (tables_of l.fn.self).literals (state_of l.fn.self h);
   same : Same l.fn.self l.self;
+  names : l.self.names ≡ l.fn.self.names;
 }

@@ -1,0 +1,6 @@
+pub mod Steps
+pub mod Opened
+pub mod Roles
+pub mod Told
+pub mod Grown
+pub mod Advanced

@@ -1,0 +1,219 @@
+-- The groups of forms that a step tells apart, and what its parts hand on.
+use Rattle.std.specs.Prelude.{◌≡◌, ℕ, List, [], ◌∷◌, ◌++◌, Bool, true, false, Option, Some, None, Result, Ok, Err}
+use Rattle.c_syntax.specs.declared.text.Text.{Text}
+use Rattle.c_syntax.specs.declared.tree.Node.{Node}
+use Rattle.c_syntax.specs.declared.tree.Note.{Note}
+use Rattle.c_syntax.specs.declared.tree.Note.TheVariants as note
+use Rattle.c_syntax.specs.declared.tree.Expr.{Expr}
+use Rattle.c_syntax.specs.declared.tree.Expr.TheVariants.{Number, Char, Str, Name, Paren', Index', Member', Arrow', Call', Unary', Step', SizeOf', SizeOfType, Cast', Binary', And', Or', Cond', Assign', Comma', Probe'}
+use Rattle.c_syntax.specs.declared.tree.ExprProbe.{ExprProbe}
+use Rattle.c_syntax.specs.declared.tree.ExprProbe.TheVariants as probes
+use Rattle.c_syntax.specs.declared.tree.UnaryOp.{UnaryOp}
+use Rattle.c_syntax.specs.declared.tree.UnaryOp.TheVariants as front
+use Rattle.c_syntax.specs.Shape.{TypeOf, NoteShape, typed, known, bare}
+use Rattle.c_syntax.specs.View.{node_shape}
+use Rattle.c_values.specs.Probes.{probe_number_of}
+use Rattle.c_store.specs.declared.value.Value.{Value}
+use Rattle.c_store.specs.declared.value.Pointer.{Pointer}
+use Rattle.c_tree.specs.Tables.{TablesShape}
+use Rattle.c_meaning.specs.declared.end.Stop.{Stop}
+use Rattle.c_meaning.specs.State.{State}
+use Rattle.c_meaning.specs.Results.{Got, Gives, Stops, untyped}
+use Rattle.c_meaning.specs.Places.{variable_place}
+use Rattle.c_meaning.specs.Knot.{Knot}
+use Rattle.c_world.specs.declared.world.World.{World}
+use Rattle.c_eval.specs.declared.frame.Wait.{Wait}
+use Rattle.c_eval.specs.declared.frame.Wait.TheVariants as wait
+use Rattle.c_eval.specs.declared.frame.Passed.{Passed}
+use Rattle.c_eval.specs.declared.frame.Passed.TheVariants as passed
+use Rattle.c_eval.specs.Rest.{value, place}
+
+-- ---- worlds
+
+-- the program, the limit of turns and the names are the same
+pub record Kept (v w : World) : Type 0 where
+  pub program : w.program.now ≡ v.program.now
+  pub limit : w.limit ≡ v.limit
+  pub names : w.names ≡ v.names
+
+-- ---- groups of forms
+
+-- it names a variable
+abbrev pub is_variable : Note → Bool
+is_variable (note.Typed t (Some n)) = true
+is_variable (note.Typed t None) = false
+is_variable (note.Known t v) = false
+is_variable note.Bare = false
+
+abbrev pub is_deref : UnaryOp → Bool
+is_deref front.AddressOf = false
+is_deref front.Deref = true
+is_deref front.Plus = false
+is_deref front.Minus = false
+is_deref front.Flip = false
+is_deref front.Not = false
+
+abbrev pub is_address : UnaryOp → Bool
+is_address front.AddressOf = true
+is_address front.Deref = false
+is_address front.Plus = false
+is_address front.Minus = false
+is_address front.Flip = false
+is_address front.Not = false
+
+-- the probe stands round a place
+abbrev pub is_of_place : ExprProbe → Bool
+is_of_place (probes.Block x) = false
+is_of_place (probes.Test x) = false
+is_of_place (probes.Select' x n cs) = false
+is_of_place (probes.Use x) = true
+is_of_place (probes.Def x) = true
+
+-- a place, whose value is read from it
+abbrev pub standing : Note → Expr → Bool
+standing n (Name x) = is_variable n
+standing n (Index' _ p o m a _ p' o' m' b) = true
+standing n (Member' _ p o m a x q) = true
+standing n (Arrow' _ p o m a x q) = true
+standing n (Unary' u _ p o m a) = is_deref u
+standing n (Probe' u _ p o m a) = is_of_place u
+standing n _ = false
+
+-- a place without parentheses and probes, or a comma
+abbrev pub has_place : Note → Expr → Bool
+has_place n (Name x) = is_variable n
+has_place n (Index' _ p o m a _ p' o' m' b) = true
+has_place n (Member' _ p o m a x q) = true
+has_place n (Arrow' _ p o m a x q) = true
+has_place n (Unary' u _ p o m a) = is_deref u
+has_place n (Comma' _ p o m a _ p' o' m' b) = true
+has_place n _ = false
+
+-- no parenthesis, and no probe but one of a place
+abbrev pub is_bare : Expr → Bool
+is_bare (Paren' _ p o m a) = false
+is_bare (Probe' u _ p o m a) = is_of_place u
+is_bare _ = true
+
+-- no parenthesis, and no probe through which a place is found
+abbrev pub is_block : ExprProbe → Bool
+is_block (probes.Block x) = true
+is_block _ = false
+
+abbrev pub is_bare_place : Expr → Bool
+is_bare_place (Paren' _ p o m a) = false
+is_bare_place (Probe' (probes.Test x) _ p o m a) = true
+is_bare_place (Probe' (probes.Select' x n cs) _ p o m a) = true
+is_bare_place (Probe' u _ p o m a) = false
+is_bare_place _ = true
+
+abbrev pub IsBare : Passed → Type 0
+IsBare (passed.Node e) = is_bare e.now.form ≡ true
+IsBare (passed.Stopped why) = Unit {0}
+
+abbrev pub IsBarePlace : Passed → Type 0
+IsBarePlace (passed.Node e) = is_bare_place e.now.form ≡ true
+IsBarePlace (passed.Stopped why) = Unit {0}
+
+-- constants, literals, names of constants, and `sizeof`
+abbrev pub is_leaf : Note → Expr → Bool
+is_leaf n (Number x) = true
+is_leaf n (Char c) = true
+is_leaf n (Str x) = true
+is_leaf (note.Typed t (Some v)) (Name x) = false
+is_leaf n (Name x) = true
+is_leaf n (SizeOf' _ p o m a) = true
+is_leaf n (SizeOfType y) = true
+is_leaf n _ = false
+
+abbrev pub is_prefix : Expr → Bool
+is_prefix (Unary' front.Deref _ p o m a) = false
+is_prefix (Unary' u _ p o m a) = true
+is_prefix (Step' u _ p o m a) = true
+is_prefix (Cast' y _ p o m a) = true
+is_prefix _ = false
+
+abbrev pub is_infix : Expr → Bool
+is_infix (Binary' u _ p o m a _ p' o' m' b) = true
+is_infix (And' _ p o m a _ p' o' m' b) = true
+is_infix (Or' _ p o m a _ p' o' m' b) = true
+is_infix (Cond' _ p o m a _ p' o' m' b _ p'' o'' m'' c) = true
+is_infix (Assign' u _ p o m a _ p' o' m' b) = true
+is_infix (Comma' _ p o m a _ p' o' m' b) = true
+is_infix _ = false
+
+-- an operator behind whose first operand another one is evaluated or not, or a comma
+abbrev pub is_choosing : Expr → Bool
+is_choosing (And' _ p o m a _ p' o' m' b) = true
+is_choosing (Or' _ p o m a _ p' o' m' b) = true
+is_choosing (Cond' _ p o m a _ p' o' m' b _ p'' o'' m'' c) = true
+is_choosing (Comma' _ p o m a _ p' o' m' b) = true
+is_choosing _ = false
+
+-- ---- what is handed on
+
+-- a node behind parentheses and probes, or a stop
+abbrev pub passed_value : TablesShape → Knot → Passed → State → Got (Option Value)
+passed_value t k (passed.Node e) s = value t k (node_shape e.now) s
+passed_value t k (passed.Stopped why) s = Stops why s
+
+abbrev pub passed_place : TablesShape → Knot → Passed → State → Got Pointer
+passed_place t k (passed.Node e) s = place t k (node_shape e.now) s
+passed_place t k (passed.Stopped why) s = Stops why s
+
+-- a value or none, or why the run stops
+abbrev pub fetched_as : Result (Option Value) Stop → State → Got (Option Value)
+fetched_as (Ok v) s = Gives v s
+fetched_as (Err why) s = Stops why s
+
+-- the variable that is noted
+abbrev pub noted_place : TablesShape → NoteShape → State → Got Pointer
+noted_place t (typed k (Some v)) s = variable_place t k v s
+noted_place t n s = untyped s
+
+-- the noted type, where there is one
+abbrev pub noted_kind : NoteShape → Option TypeOf
+noted_kind (typed k n) = Some k
+noted_kind (known k v) = Some k
+noted_kind bare = None
+
+-- ---- probes
+
+-- the probe logged, or has no number
+abbrev pub Tells : Bool → (ℕ → State → State) → Text → State → State → Type 0
+Tells true log x s s' = (k : ℕ) × (probe_number_of x ≡ Some k) × (s' ≡ log k s)
+Tells false log x s s' = (probe_number_of x ≡ None) × (s' ≡ s)
+
+abbrev pub told : {A : Type 0} → Bool → State → (State → Got A) → Got A
+told true s go = go s
+told false s go = untyped s
+
+-- ---- waits
+
+-- a probe waits
+abbrev pub is_probe : Wait → Bool
+is_probe wait.Probe = true
+is_probe wait.Operand = false
+is_probe wait.Place = false
+is_probe wait.Read = false
+is_probe (wait.Second v) = false
+is_probe wait.Truth = false
+is_probe (wait.Into q) = false
+is_probe (wait.Combine q x) = false
+is_probe wait.Chosen = false
+is_probe wait.Comma = false
+is_probe (wait.Argument kinds others done) = false
+
+-- what can do with no value
+abbrev pub takes_none : Wait → Bool
+takes_none wait.Operand = true
+takes_none wait.Chosen = true
+takes_none wait.Comma = true
+takes_none wait.Probe = false
+takes_none wait.Place = false
+takes_none wait.Read = false
+takes_none (wait.Second v) = false
+takes_none wait.Truth = false
+takes_none (wait.Into q) = false
+takes_none (wait.Combine q x) = false
+takes_none (wait.Argument kinds others done) = false

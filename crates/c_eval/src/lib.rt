@@ -1,0 +1,9 @@
+//! Expressions, evaluated step by step on a stack of what waits for their operands.
+#![tactic(auto)]
+
+pub mod advance;
+mod builtins;
+pub mod frame;
+mod leaf;
+mod telling;
+pub mod work;

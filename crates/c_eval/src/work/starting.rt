@@ -1,0 +1,149 @@
+ghost use Rattle.std.specs.Prelude.{◌≡◌, ◌<◌, ◌≤◌, ◌+◌, ◌*◌, List, true, false, IfOk, OnOk};
+ghost use Rattle.atac_base.specs.declared.probes.Event.{Event};
+ghost use Rattle.c_syntax.specs.Shape.{prefix, unary};
+ghost use Rattle.c_syntax.specs.View.{node_shape, expr_shape};
+ghost use Rattle.c_tree.specs.Tables.{TablesShape, tables_shape};
+ghost use Rattle.c_meaning.specs.State.{State};
+ghost use Rattle.c_meaning.specs.Results.{then_do};
+ghost use Rattle.c_meaning.specs.Knot.{Knot};
+ghost use Rattle.c_world.specs.World.{state_of};
+ghost use Rattle.c_eval.specs.Rest.{value, place, to_value, left, rest, rest_after, weights, size, size_after, Lower, one_more};
+ghost use Rattle.c_eval.specs.Forms.{Kept, is_bare, is_address, is_deref, is_prefix, is_infix, standing};
+
+use super::Work;
+use super::passing::pass_place;
+use crate::builtins::built_in;
+use crate::frame::{Step, Wait};
+use crate::leaf::leaf;
+use atac_base::place::NoMemory;
+use c_meaning::end::Stop;
+use c_syntax::tree::{Expr, Node, UnaryOp};
+use c_tree::tables::Tables;
+use c_world::world::World;
+
+#[tactic(auto, using(crate::proofs::Steps::frames_push, crate::proofs::Steps::weights_push, crate::proofs::Steps::then_then, crate::proofs::Steps::lower, crate::proofs::Steps::needed_then, crate::proofs::Steps::at_place))]
+impl<'p> Work<'p> {
+    // A node that is no place, whose turn was taken.
+    pub(super) fn begin(
+        &mut self,
+        tables: &'p Tables,
+        world: &mut World<'p>,
+        node: &'p Node,
+    ) -> Result<Step, NoMemory>
+        requires bare { is_bare node.now.form ≡ true }
+        requires value { standing node.now.note node.now.form ≡ false }
+        ensures rest { IfOk result (λ a. (k : Knot) (h : List Event) → rest_after (tables_shape tables.now) k a self.new (state_of world.new h) ≡ then_do (value (tables_shape tables.now) k (node_shape node.now) (one_more (state_of world.old h))) (to_value (left (tables_shape tables.now) k self.old))) }
+        ensures falls { IfOk result (λ a. Lower a (4 * world.new.turns + size_after a self.new) (4 * world.old.turns + 2 + weights self.old.stack.items)) }
+        ensures kept { OnOk result (Kept world.old world.new) }
+    {
+        match &node.form {
+            Expr::Number(_)
+            | Expr::Char(_)
+            | Expr::Str(_)
+            | Expr::Name(_)
+            | Expr::SizeOf(_)
+            | Expr::SizeOfType(_) => Ok(self.reply(leaf(node))),
+            Expr::Call(_, args) => {
+                let step = self.call(tables, world, node, args)?;
+                Ok(step)
+            }
+            Expr::Unary(_, _) | Expr::Step(_, _) | Expr::Cast(_, _) => {
+                let step = self.begin_prefix(node)?;
+                Ok(step)
+            }
+            Expr::Binary(_, _, _)
+            | Expr::And(_, _)
+            | Expr::Or(_, _)
+            | Expr::Cond(_, _, _)
+            | Expr::Assign(_, _, _)
+            | Expr::Comma(_, _) => {
+                let step = self.begin_infix(node)?;
+                Ok(step)
+            }
+            Expr::Paren(_)
+            | Expr::Probe(_, _)
+            | Expr::Index(_, _)
+            | Expr::Member(_, _, _)
+            | Expr::Arrow(_, _, _) => unreachable!(),
+        }
+    }
+
+    // An operator with one operand, whose turn was taken.
+    fn begin_prefix(&mut self, node: &'p Node) -> Result<Step, NoMemory>
+        requires { is_prefix node.now.form ≡ true }
+        ensures rest { IfOk result (λ a. (t : TablesShape) (k : Knot) (s : State) → rest_after t k a self.new s ≡ then_do (value t k (node_shape node.now) (one_more s)) (to_value (left t k self.old))) }
+        ensures size { IfOk result (λ a. size_after a self.new ≤ 1 + weights self.old.stack.items) }
+    {
+        match &node.form {
+            Expr::Unary(op, a) => {
+                let step = self.begin_unary(node, *op, a)?;
+                Ok(step)
+            }
+            Expr::Cast(_, a) => {
+                let step = self.go(node, Wait::Operand, a)?;
+                Ok(step)
+            }
+            Expr::Step(_, a) => {
+                let step = self.go_to_place(node, Wait::Place, a)?;
+                Ok(step)
+            }
+            _ => unreachable!(),
+        }
+    }
+
+    fn begin_unary(&mut self, node: &'p Node, op: UnaryOp, a: &'p Node) -> Result<Step, NoMemory>
+        requires form { expr_shape node.now.form ≡ prefix (unary op) (node_shape a.now) }
+        requires value { is_deref op ≡ false }
+        ensures rest { IfOk result (λ a. (t : TablesShape) (k : Knot) (s : State) → rest_after t k a self.new s ≡ then_do (value t k (node_shape node.now) (one_more s)) (to_value (left t k self.old))) }
+        ensures size { IfOk result (λ a. size_after a self.new ≤ 1 + weights self.old.stack.items) }
+    {
+        if is_address(op) {
+            let step = self.go_to_place(node, Wait::Place, a)?;
+            Ok(step)
+        } else {
+            let step = self.go(node, Wait::Operand, a)?;
+            Ok(step)
+        }
+    }
+
+    // An operator with more operands, whose turn was taken.
+    fn begin_infix(&mut self, node: &'p Node) -> Result<Step, NoMemory>
+        requires { is_infix node.now.form ≡ true }
+        ensures rest { IfOk result (λ a. (t : TablesShape) (k : Knot) (s : State) → rest_after t k a self.new s ≡ then_do (value t k (node_shape node.now) (one_more s)) (to_value (left t k self.old))) }
+        ensures size { IfOk result (λ a. size_after a self.new ≤ 1 + weights self.old.stack.items) }
+    {
+        match &node.form {
+            Expr::Binary(_, a, _) => {
+                let step = self.go(node, Wait::Operand, a)?;
+                Ok(step)
+            }
+            Expr::And(a, _) => {
+                let step = self.go(node, Wait::Operand, a)?;
+                Ok(step)
+            }
+            Expr::Or(a, _) => {
+                let step = self.go(node, Wait::Operand, a)?;
+                Ok(step)
+            }
+            Expr::Cond(a, _, _) => {
+                let step = self.go(node, Wait::Operand, a)?;
+                Ok(step)
+            }
+            Expr::Comma(a, _) => {
+                let step = self.go(node, Wait::Operand, a)?;
+                Ok(step)
+            }
+            Expr::Assign(_, a, _) => {
+                let step = self.go_to_place(node, Wait::Place, a)?;
+                Ok(step)
+            }
+            _ => unreachable!(),
+        }
+    }
+}
+
+fn is_address(op: UnaryOp) -> bool
+    ensures { result ≡ is_address op }
+{
+    matches!(op, UnaryOp::AddressOf)
+}

@@ -1,0 +1,4 @@
+pub mod Fronts
+pub mod Forms
+pub mod Named
+pub mod Planned

@@ -1,0 +1,4 @@
+pub mod Extents
+pub mod Starts
+pub mod Names
+pub mod Parts
