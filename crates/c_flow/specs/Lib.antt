@@ -1,0 +1,3 @@
+pub mod Todo
+pub mod Forms
+pub mod Kept

@@ -1,0 +1,7 @@
+//! Statements and calls, run step by step on a stack of what waits for them to leave.
+#![tactic(auto)]
+
+mod entry;
+pub mod machine;
+mod marks;
+pub mod parts;

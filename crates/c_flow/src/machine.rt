@@ -1,0 +1,30 @@
+mod beginning;
+mod calling;
+mod choosing;
+mod declaring;
+mod leaving;
+mod listing;
+mod looping;
+mod returning;
+mod stepping;
+
+use crate::parts::{Active, Use, Waiting};
+use c_meaning::end::Stop;
+use c_eval::work::Work;
+
+/// A call of a function, as far as it has come, with what waits for statements to leave, the last one on top.
+#[derive(Drop)]
+pub struct Machine<'p> {
+    pub function: u32,
+    pub active: Active<'p>,
+    pub work: Work<'p>,
+    pub used: Use<'p>,
+    pub waiting: Vec<Waiting<'p>>,
+}
+
+/// How a run begins: a machine runs, or the run stops.
+#[derive(Drop)]
+pub enum Begun<'p> {
+    Running(Machine<'p>),
+    Stopped(Stop),
+}

@@ -1,0 +1,71 @@
+ghost use Rattle.std.specs.Prelude.{◌≡◌, ◌+◌, ◌*◌, ◌≤◌, List, IfOk, OnOk};
+ghost use Rattle.atac_base.specs.declared.probes.Event.{Event};
+ghost use Rattle.c_syntax.specs.View.{declarator_shape, item_list};
+ghost use Rattle.c_tree.specs.Tables.{tables_shape};
+ghost use Rattle.c_meaning.specs.Firsts.{quiet};
+ghost use Rattle.c_meaning.specs.Counts.{variables_of};
+ghost use Rattle.c_meaning.specs.Declarations.{declared_name};
+ghost use Rattle.c_meaning.specs.Knot.{Knot};
+ghost use Rattle.c_world.specs.Names.{scope_counts};
+ghost use Rattle.c_world.specs.World.{state_of, tables_of};
+ghost use Rattle.c_plan.specs.Parts.{names_ahead};
+ghost use Rattle.c_flow.specs.Todo.{block_flow, declared_as, LeavesIn, Tied, OnMore, IsOn, all_weights, machine_size};
+
+use super::Machine;
+use crate::parts::{Declared, Step, Waiting};
+use atac_base::place::NoMemory;
+use c_plan::block::{Ahead, Block};
+use c_plan::plan::Plan;
+use c_syntax::tree::Declarator;
+use c_world::world::World;
+
+impl<'p> Machine<'p> {
+    // Declarators and declarations (C89, 3.5), and the statements behind them.
+    pub(super) fn declare(
+        &mut self,
+        plan: &'p Plan<'p>,
+        world: &mut World<'p>,
+        mut block: Block<'p>,
+    ) -> Result<Step, NoMemory>
+        requires program { world.old.program.now ≡ plan.now.program.now }
+        requires tied { Tied self.old world.old }
+        ensures left { IfOk result (λ a. LeavesIn plan.now.program.now a self.new world.new self.old world.old (λ t k. block_flow t k (names_ahead block.entry) (item_list block.entry.items.now.items) block.entry.before)) }
+        ensures goes { IfOk result IsOn }
+        ensures program { world.new.program.now ≡ world.old.program.now }
+        ensures tied { IfOk result (λ a. OnMore a (Tied self.new world.new)) }
+        ensures size { IfOk result (λ a. OnMore a (12 * world.new.turns + machine_size self.new ≤ 12 * world.old.turns + 1 + all_weights self.old.waiting.items)) }
+    {
+        loop {
+            match block.next() {
+                Ahead::Done(sequence) => {
+                    let step = self.list(sequence)?;
+                    return Ok(step);
+                }
+                Ahead::Name(declarator, rest) => {
+                    match declare_one(world, declarator, block.before)? {
+                        Declared::Done => block = rest,
+                        Declared::Stopped(why) => return Ok(Step::Stopped(why)),
+                        Declared::Value(node, used) => {
+                            self.wait(Waiting::Names(rest))?;
+                            return Ok(self.work_at(node, used));
+                        }
+                    }
+                }
+            }
+        }
+    }
+}
+
+// One declarator behind so many variables.
+fn declare_one<'p>(
+    world: &mut World<'p>,
+    declarator: &'p Declarator,
+    before: u32,
+) -> Result<Declared<'p>, NoMemory>
+    ensures done { IfOk result (λ r. (k : Knot) (h : List Event) → declared_as (tables_of world.old) k r (state_of world.new h) ≡ declared_name (tables_of world.old) k (declarator_shape declarator.now) (quiet before) (state_of world.old h)) }
+    ensures program { world.new.program.now ≡ world.old.program.now }
+    ensures counts { OnOk result (scope_counts world.new.names.calls ≡ scope_counts world.old.names.calls) }
+    ensures turns { OnOk result (world.new.turns ≤ world.old.turns) }
+{
+    Err(NoMemory)
+}
