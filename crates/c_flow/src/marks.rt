@@ -5,7 +5,7 @@ ghost use Rattle.c_meaning.specs.declared.end.Flow.{Flow};
 ghost use Rattle.c_meaning.specs.State.{State};
 ghost use Rattle.c_meaning.specs.Results.{Got};
 ghost use Rattle.c_meaning.specs.Statements.{marks_log};
-ghost use Rattle.c_world.specs.World.{state_of};
+ghost use Rattle.c_world.specs.World.{state_of, Same};
 ghost use Rattle.c_flow.specs.Todo.{told};
 ghost use Rattle.c_flow.specs.Kept.{Kept};
 
@@ -20,6 +20,7 @@ use c_world::world::World;
 pub fn log_marks(world: &mut World<'_>, marks: &[ProbeMark]) -> Result<bool, NoMemory>
     ensures told { IfOk result (λ r. (h : List Event) (go : State → Got Flow) → told r (state_of world.new h) go ≡ marks_log marks.now (state_of world.old h) go) }
     ensures kept { OnOk result (Kept world.old world.new) }
+    ensures same { OnOk result (Same world.old world.new) }
 {
     if marks.is_empty() {
         return Ok(true);
@@ -31,6 +32,7 @@ pub fn log_marks(world: &mut World<'_>, marks: &[ProbeMark]) -> Result<bool, NoM
 fn log_each(world: &mut World<'_>, marks: &[ProbeMark]) -> Result<bool, NoMemory>
     ensures told { IfOk result (λ r. (h : List Event) (go : State → Got Flow) → told r (state_of world.new h) go ≡ marks_log marks.now (state_of world.old h) go) }
     ensures kept { OnOk result (Kept world.old world.new) }
+    ensures same { OnOk result (Same world.old world.new) }
 {
     let mut rest = marks;
     while let Some((mark, others)) = rest.split_first() {

@@ -1,4 +1,4 @@
-ghost use Rattle.std.specs.Prelude.{◌≡◌, ◌+◌, ◌*◌, ◌<◌, ◌≤◌, false, IfOk};
+ghost use Rattle.std.specs.Prelude.{◌≡◌, ◌+◌, ◌*◌, ◌<◌, ◌≤◌, false, IfOk, OnOk};
 ghost use Rattle.c_syntax.specs.View.{stmt_shape, form_shape, maybe_node, item_list};
 ghost use Rattle.c_syntax.specs.Shape.{simply, return};
 ghost use Rattle.c_meaning.specs.Firsts.{quiet};
@@ -6,6 +6,7 @@ ghost use Rattle.c_meaning.specs.Results.{turn, then_do};
 ghost use Rattle.c_meaning.specs.Statements.{scoped, flow, form_flow};
 ghost use Rattle.c_plan.specs.Parts.{names_ahead};
 ghost use Rattle.c_flow.specs.Todo.{again_flow, loop_of, block_flow, Leaves, LeavesIn, Tied, OnMore, open_scopes, all_weights, machine_size};
+ghost use Rattle.c_world.specs.World.{Same};
 
 use super::Machine;
 use super::leaving::untyped;
@@ -32,6 +33,7 @@ impl<'p> Machine<'p> {
         ensures left { IfOk result (λ a. LeavesIn plan.now.program.now a self.new world.new self.old world.old (λ t k. flow t k false (stmt_shape placed.entry.stmt.now) (quiet placed.entry.before))) }
         ensures tied { IfOk result (λ a. OnMore a (Tied self.new world.new)) }
         ensures falls { IfOk result (λ a. OnMore a (12 * world.new.turns + machine_size self.new < 12 * world.old.turns + all_weights self.old.waiting.items)) }
+        ensures same { OnOk result (Same world.old world.new) }
     {
         if !log_marks(world, &placed.stmt.probes)? {
             return Ok(untyped());
@@ -53,6 +55,7 @@ impl<'p> Machine<'p> {
         ensures left { IfOk result (λ a. LeavesIn plan.now.program.now a self.new world.new self.old world.old (λ t k s. turn s (form_flow t k (form_shape placed.entry.stmt.now.form) (quiet placed.entry.before)))) }
         ensures tied { IfOk result (λ a. OnMore a (Tied self.new world.new)) }
         ensures falls { IfOk result (λ a. OnMore a (12 * world.new.turns + machine_size self.new < 12 * world.old.turns + all_weights self.old.waiting.items)) }
+        ensures same { OnOk result (Same world.old world.new) }
     {
         if world.turn() {
             let step = self.begin(plan, world, placed)?;
@@ -74,6 +77,7 @@ impl<'p> Machine<'p> {
         ensures left { IfOk result (λ a. LeavesIn plan.now.program.now a self.new world.new self.old world.old (λ t k. form_flow t k (form_shape placed.entry.stmt.now.form) (quiet placed.entry.before))) }
         ensures tied { IfOk result (λ a. OnMore a (Tied self.new world.new)) }
         ensures size { IfOk result (λ a. OnMore a (12 * world.new.turns + machine_size self.new ≤ 12 * world.old.turns + 2 + all_weights self.old.waiting.items)) }
+        ensures same { OnOk result (Same world.old world.new) }
     {
         match &placed.stmt.form {
             StmtForm::Compound(body) => {
@@ -118,6 +122,7 @@ impl<'p> Machine<'p> {
         ensures left { IfOk result (λ a. LeavesIn plan.now.program.now a self.new world.new self.old world.old (λ t k s. scoped s (block_flow t k (names_ahead block.entry) (item_list block.entry.items.now.items) block.entry.before))) }
         ensures tied { IfOk result (λ a. OnMore a (Tied self.new world.new)) }
         ensures size { IfOk result (λ a. OnMore a (12 * world.new.turns + machine_size self.new ≤ 12 * world.old.turns + 2 + all_weights self.old.waiting.items)) }
+        ensures same { OnOk result (Same world.old world.new) }
     {
         world.begin_scope()?;
         self.wait(Waiting::Scope)?;

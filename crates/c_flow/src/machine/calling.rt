@@ -1,4 +1,4 @@
-ghost use Rattle.std.specs.Prelude.{◌≡◌, ◌+◌, ◌*◌, ◌<◌, List, [], ◌∷◌, Some, IfOk};
+ghost use Rattle.std.specs.Prelude.{◌≡◌, ◌+◌, ◌*◌, ◌<◌, List, [], ◌∷◌, Some, IfOk, OnOk};
 ghost use Rattle.atac_base.specs.declared.probes.Event.{Event};
 ghost use Rattle.c_syntax.specs.View.{decl_form_shape, compound_shape};
 ghost use Rattle.c_tree.specs.Tables.{tables_shape};
@@ -10,7 +10,7 @@ ghost use Rattle.c_meaning.specs.Calls.{routine};
 ghost use Rattle.c_meaning.specs.Runs.{silent};
 ghost use Rattle.c_routines.specs.Routines.{source_of, routine_of};
 ghost use Rattle.c_world.specs.Names.{scope_counts};
-ghost use Rattle.c_world.specs.World.{state_of};
+ghost use Rattle.c_world.specs.World.{state_of, Same};
 ghost use Rattle.c_eval.specs.Rest.{weights};
 ghost use Rattle.c_flow.specs.Todo.{entered_flow, resumed, behind, knot_of, begun_left, OnRunning, left_after, LeavesIn, Tied, OnMore, IsOn, open_scopes, all_weights, machine_size};
 
@@ -42,6 +42,7 @@ impl<'p> Machine<'p> {
         requires none { scope_counts world.old.names.calls ≡ [] }
         ensures left { IfOk result (λ b. (h : List Event) → begun_left (tables_shape plan.now.program.now.tables) (knot_of plan.now.program.now) b (state_of world.new h) ≡ (knot_of plan.now.program.now).call function [] (state_of world.old h)) }
         ensures tied { IfOk result (λ b. OnRunning b (λ m. Tied m world.new)) }
+        ensures same { OnOk result (Same world.old world.new) }
     {
         let mut machine = Machine {
             function,
@@ -74,6 +75,7 @@ impl<'p> Machine<'p> {
         ensures left { IfOk result (λ a. (h : List Event) → left_after (tables_shape plan.now.program.now.tables) (knot_of plan.now.program.now) a self.new (state_of world.new h) ≡ then_do ((knot_of plan.now.program.now).call function args.items (state_of world.old h)) (resumed (tables_shape plan.now.program.now.tables) (knot_of plan.now.program.now) self.old.work.stack.items self.old.used (behind (tables_shape plan.now.program.now.tables) (knot_of plan.now.program.now) self.old))) }
         ensures tied { IfOk result (λ a. OnMore a (Tied self.new world.new)) }
         ensures falls { IfOk result (λ a. OnMore a (12 * world.new.turns + machine_size self.new < 12 * world.old.turns + 3 + 3 * weights self.old.work.stack.items + all_weights self.old.waiting.items)) }
+        ensures same { OnOk result (Same world.old world.new) }
     {
         let alloc = self.work.alloc;
         let used = self.used;
@@ -97,6 +99,7 @@ impl<'p> Machine<'p> {
         ensures goes { IfOk result IsOn }
         ensures tied { IfOk result (λ a. OnMore a (Tied self.new world.new)) }
         ensures falls { IfOk result (λ a. OnMore a (12 * world.new.turns + machine_size self.new < 12 * world.old.turns + all_weights self.old.waiting.items)) }
+        ensures same { OnOk result (Same world.old world.new) }
     {
         let Some(called) = world.routine(function) else {
             return Ok(untyped());
@@ -125,6 +128,7 @@ impl<'p> Machine<'p> {
         ensures goes { IfOk result IsOn }
         ensures tied { IfOk result (λ a. OnMore a (Tied self.new world.new)) }
         ensures falls { IfOk result (λ a. OnMore a (12 * world.new.turns + machine_size self.new < 12 * world.old.turns + all_weights self.old.waiting.items)) }
+        ensures same { OnOk result (Same world.old world.new) }
     {
         if !log_marks(world, called.marks)? {
             return Ok(untyped());
@@ -149,6 +153,7 @@ impl<'p> Machine<'p> {
         ensures goes { IfOk result IsOn }
         ensures tied { IfOk result (λ a. OnMore a (Tied self.new world.new)) }
         ensures falls { IfOk result (λ a. OnMore a (12 * world.new.turns + machine_size self.new < 12 * world.old.turns + all_weights self.old.waiting.items)) }
+        ensures same { OnOk result (Same world.old world.new) }
     {
         if world.turn() {
             let step = self.declare(plan, world, plan.body(function, called))?;

@@ -7,7 +7,7 @@ ghost use Rattle.c_meaning.specs.Counts.{variables_of};
 ghost use Rattle.c_meaning.specs.Declarations.{declared_name};
 ghost use Rattle.c_meaning.specs.Knot.{Knot};
 ghost use Rattle.c_world.specs.Names.{scope_counts};
-ghost use Rattle.c_world.specs.World.{state_of, tables_of};
+ghost use Rattle.c_world.specs.World.{state_of, tables_of, Same};
 ghost use Rattle.c_plan.specs.Parts.{names_ahead};
 ghost use Rattle.c_flow.specs.Todo.{block_flow, declared_as, LeavesIn, Tied, OnMore, IsOn, all_weights, machine_size};
 
@@ -34,6 +34,7 @@ impl<'p> Machine<'p> {
         ensures program { world.new.program.now ≡ world.old.program.now }
         ensures tied { IfOk result (λ a. OnMore a (Tied self.new world.new)) }
         ensures size { IfOk result (λ a. OnMore a (12 * world.new.turns + machine_size self.new ≤ 12 * world.old.turns + 1 + all_weights self.old.waiting.items)) }
+        ensures same { OnOk result (Same world.old world.new) }
     {
         loop {
             match block.next() {
@@ -66,6 +67,7 @@ fn declare_one<'p>(
     ensures program { world.new.program.now ≡ world.old.program.now }
     ensures counts { OnOk result (scope_counts world.new.names.calls ≡ scope_counts world.old.names.calls) }
     ensures turns { OnOk result (world.new.turns ≤ world.old.turns) }
+    ensures same { OnOk result (Same world.old world.new) }
 {
     Err(NoMemory)
 }

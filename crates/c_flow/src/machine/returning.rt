@@ -7,7 +7,7 @@ ghost use Rattle.c_meaning.specs.Results.{then_do};
 ghost use Rattle.c_meaning.specs.Operators.{converted};
 ghost use Rattle.c_meaning.specs.Calls.{result_in, returned};
 ghost use Rattle.c_world.specs.Names.{scope_counts};
-ghost use Rattle.c_world.specs.World.{state_of};
+ghost use Rattle.c_world.specs.World.{state_of, Same};
 ghost use Rattle.c_eval.specs.Rest.{weights};
 ghost use Rattle.c_flow.specs.Todo.{gave, resumed, behind, knot_of, left_after, Tied, OnMore, open_scopes, all_weights, machine_size};
 
@@ -39,6 +39,7 @@ impl<'p> Machine<'p> {
         ensures left { (h : List Event) → left_after (tables_shape plan.now.program.now.tables) (knot_of plan.now.program.now) result self.new (state_of world.new h) ≡ then_do (returned (result_in (row (tables_shape plan.now.program.now.tables).functions function)) flow (state_of world.old h)) (resumed (tables_shape plan.now.program.now.tables) (knot_of plan.now.program.now) frames.entry.items used.entry (behind (tables_shape plan.now.program.now.tables) (knot_of plan.now.program.now) self.old)) }
         ensures tied { OnMore result (Tied self.new world.new) }
         ensures size { OnMore result (12 * world.new.turns + machine_size self.new ≤ 12 * world.old.turns + 3 + 3 * weights frames.entry.items + all_weights self.old.waiting.items) }
+        ensures same { Same world.old world.new }
     {
         match result_of(world.tables(), function, flow) {
             None => untyped(),
@@ -64,6 +65,7 @@ impl<'p> Machine<'p> {
         requires tied { scope_counts world.old.names.calls ≡ 1 ∷ [] }
         ensures left { (h : List Event) → left_after (tables_shape plan.now.program.now.tables) (knot_of plan.now.program.now) result self.new (state_of world.new h) ≡ returned (result_in (row (tables_shape plan.now.program.now.tables).functions self.old.function)) flow (state_of world.old h) }
         ensures done { OnMore result ⊥ }
+        ensures same { Same world.old world.new }
     {
         match result_of(world.tables(), self.function, flow) {
             None => untyped(),

@@ -4,7 +4,7 @@ ghost use Rattle.c_syntax.specs.View.{form_shape};
 ghost use Rattle.c_tree.specs.Tables.{tables_shape};
 ghost use Rattle.c_meaning.specs.Results.{then_do};
 ghost use Rattle.c_world.specs.Names.{scope_counts};
-ghost use Rattle.c_world.specs.World.{state_of, tables_of, answered};
+ghost use Rattle.c_world.specs.World.{state_of, tables_of, answered, Same};
 ghost use Rattle.c_eval.specs.Rest.{rest_after, size_after, Lower};
 ghost use Rattle.c_flow.specs.Kept.{Kept};
 ghost use Rattle.c_flow.specs.Todo.{init_flow, scopes_with, stmt_flow, use_flow, uses, waits, behind, knot_of, left_in, left_after, Leaves, Tied, OnMore, open_scopes, weight, all_weights, machine_size};
@@ -36,6 +36,7 @@ impl<'p> Machine<'p> {
         ensures left { IfOk result (λ a. (h : List Event) → left_after (tables_shape plan.now.program.now.tables) (knot_of plan.now.program.now) a self.new (state_of world.new h) ≡ left_in (tables_shape plan.now.program.now.tables) (knot_of plan.now.program.now) self.old (state_of world.old h)) }
         ensures tied { IfOk result (λ a. OnMore a (Tied self.new world.new)) }
         ensures falls { IfOk result (λ a. OnMore a (12 * world.new.turns + machine_size self.new < 12 * world.old.turns + machine_size self.old)) }
+        ensures same { OnOk result (Same world.old world.new) }
     {
         match self.active {
             Active::Open(placed) => {
@@ -68,6 +69,7 @@ impl<'p> Machine<'p> {
         ensures left { IfOk result (λ a. (h : List Event) → left_after (tables_shape plan.now.program.now.tables) (knot_of plan.now.program.now) a self.new (state_of world.new h) ≡ then_do (rest_after (tables_shape plan.now.program.now.tables) (knot_of plan.now.program.now) advance self.old.work (state_of world.old h)) (uses (tables_shape plan.now.program.now.tables) (knot_of plan.now.program.now) self.old.used (behind (tables_shape plan.now.program.now.tables) (knot_of plan.now.program.now) self.old))) }
         ensures tied { IfOk result (λ a. OnMore a (Tied self.new world.new)) }
         ensures falls { IfOk result (λ a. (n : ℕ) → Lower advance (4 * world.old.turns + size_after advance self.old.work) n → OnMore a (12 * world.new.turns + machine_size self.new < 3 * n + all_weights self.old.waiting.items)) }
+        ensures same { OnOk result (Same world.old world.new) }
     {
         match advance {
             Advance::More => Ok(Step::More),
@@ -96,6 +98,7 @@ impl<'p> Machine<'p> {
         ensures left { IfOk result (λ a. (h : List Event) → left_after (tables_shape plan.now.program.now.tables) (knot_of plan.now.program.now) a self.new (state_of world.new h) ≡ uses (tables_shape plan.now.program.now.tables) (knot_of plan.now.program.now) self.old.used (behind (tables_shape plan.now.program.now.tables) (knot_of plan.now.program.now) self.old) value (state_of world.old h)) }
         ensures tied { IfOk result (λ a. OnMore a (Tied self.new world.new)) }
         ensures size { IfOk result (λ a. OnMore a (12 * world.new.turns + machine_size self.new ≤ 12 * world.old.turns + 2 + all_weights self.old.waiting.items)) }
+        ensures same { OnOk result (Same world.old world.new) }
     {
         match self.used {
             Use::Discard => Ok(self.leave(Flow::Next)),
@@ -168,6 +171,7 @@ impl<'p> Machine<'p> {
         ensures left { IfOk result (λ a. (h : List Event) → left_after (tables_shape plan.now.program.now.tables) (knot_of plan.now.program.now) a self.new (state_of world.new h) ≡ behind (tables_shape plan.now.program.now.tables) (knot_of plan.now.program.now) self.old flow (state_of world.old h)) }
         ensures tied { IfOk result (λ a. OnMore a (Tied self.new world.new)) }
         ensures falls { IfOk result (λ a. OnMore a (12 * world.new.turns + machine_size self.new < 12 * world.old.turns + 1 + all_weights self.old.waiting.items)) }
+        ensures same { OnOk result (Same world.old world.new) }
     {
         match self.waiting.pop() {
             None => Ok(self.finish(plan, world, flow)),
@@ -191,6 +195,7 @@ impl<'p> Machine<'p> {
         ensures left { IfOk result (λ a. (h : List Event) → left_after (tables_shape plan.now.program.now.tables) (knot_of plan.now.program.now) a self.new (state_of world.new h) ≡ waits (tables_shape plan.now.program.now.tables) (knot_of plan.now.program.now) waiting.entry (behind (tables_shape plan.now.program.now.tables) (knot_of plan.now.program.now) self.old) flow (state_of world.old h)) }
         ensures tied { IfOk result (λ a. OnMore a (Tied self.new world.new)) }
         ensures falls { IfOk result (λ a. OnMore a (12 * world.new.turns + machine_size self.new < 12 * world.old.turns + 1 + weight waiting.entry + all_weights self.old.waiting.items)) }
+        ensures same { OnOk result (Same world.old world.new) }
     {
         match waiting {
             Waiting::Rest(sequence) => {
@@ -227,6 +232,7 @@ fn write_initial(
 ) -> Result<Option<Stop>, NoMemory>
     ensures done { IfOk result (λ r. (h : List Event) → init_flow (tables_of world.old) instance variable name.now value (state_of world.old h) ≡ answered r (state_of world.new h)) }
     ensures kept { OnOk result (Kept world.old world.new) }
+    ensures same { OnOk result (Same world.old world.new) }
 {
     Err(NoMemory)
 }

@@ -14,6 +14,7 @@ loop-mark-preserved c =
           ∙ v.told h go;
       kept = record {
         program = l.same.program ∙ v.kept.program;
+        limit = l.same.limit ∙ v.kept.limit;
         turns = ap (λ (s : State). s.turns) (l.logged []) ∙ v.kept.turns;
         names = l.names ∙ v.kept.names;
       };

@@ -16,6 +16,7 @@ invariant-loop-sequence l =
     record {
       same : l.self ≡ l.fn.self;
       program : l.world.program.now ≡ l.fn.world.program.now;
+      limit : l.world.limit ≡ l.fn.world.limit;
       counts : scope_counts l.world.names.calls ≡ scope_counts l.fn.world.names.calls;
       turns : l.world.turns ≤ l.fn.world.turns;
       left : (h : List Event) → block_flow t k (names_ahead l.block) (item_list l.block.items.now.items) l.block.before (state_of l.world h) ≡ block_flow t k (names_ahead l.fn.block) (item_list l.fn.block.items.now.items) l.fn.block.before (state_of l.fn.world h);
