@@ -1,0 +1,31 @@
+ghost use Rattle.std.specs.Prelude.{◌≡◌};
+ghost use Rattle.c_tree.specs.Tables.{tables_shape, function_shape};
+ghost use Rattle.c_tree.specs.Units.{is_main};
+ghost use Rattle.c_meaning.specs.Runs.{main_number};
+
+use atac_base::place::IntKind;
+use c_kinds::kinds::same;
+use c_syntax::tree::CType;
+use c_tree::tables::{FunctionRow, Tables};
+
+/// The number of the function with which a run begins, `int main(void)` with a body (C89, 2.1.2.2.1).
+pub fn main_number(tables: &Tables) -> Option<u32>
+    ensures { result ≡ main_number (tables_shape tables.now) }
+{
+    for i in 0..tables.functions() {
+        if is_main(tables.function(i + 1)) {
+            return Some(i + 1);
+        }
+    }
+    None
+}
+
+// Whether it is that function.
+fn is_main(row: &FunctionRow) -> bool
+    ensures { result ≡ is_main (function_shape row.now) }
+{
+    b"main".as_slice() == row.name.bytes()
+        && same(&CType::Int(IntKind::Int), &row.result)
+        && row.params.is_empty()
+        && row.defined.is_some()
+}

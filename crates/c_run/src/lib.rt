@@ -1,0 +1,5 @@
+//! A whole run of a program.
+#![tactic(auto)]
+
+pub mod first;
+pub mod run;
