@@ -4,3 +4,4 @@ pub mod Roles
 pub mod Told
 pub mod Grown
 pub mod Advanced
+pub mod Once

@@ -1,5 +1,5 @@
 -- What each form of a node is: a place, a node with a turn, or looked through.
-use Rattle.std.proofs.Common.{◌≡◌, ℕ, List, [], ◌∷◌, ◌++◌, ◌+◌, ap, ◌∙◌, Option, Some, None, Bool, true, false, refl, sym, arith}
+use Rattle.std.proofs.Common.{◌≡◌, List, [], ◌∷◌, ◌++◌, ap, ◌∙◌, Option, Some, None, Bool, true, false, refl, sym, arith}
 use Rattle.std.proofs.lemmas.Bool.{true≢false}
 use Rattle.atac_base.specs.declared.place.Pos.{Pos}
 use Rattle.std.specs.Borrow.{Bor}
@@ -19,7 +19,7 @@ use Rattle.c_syntax.specs.View.{note_shape, expr_shape, node_shape}
 use Rattle.c_tree.specs.Tables.{TablesShape}
 use Rattle.c_meaning.specs.declared.end.Stop.TheVariants as stop
 use Rattle.c_meaning.specs.State.{State}
-use Rattle.c_meaning.specs.Results.{Got, Gives, Stops, then_do, untyped}
+use Rattle.c_meaning.specs.Results.{Stops, then_do, untyped}
 use Rattle.c_items.specs.Tests.{choosing}
 use Rattle.c_meaning.specs.Operators.{is_true}
 use Rattle.c_meaning.specs.Firsts.{quiet, outcome}

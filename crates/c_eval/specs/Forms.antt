@@ -1,32 +1,36 @@
 -- The groups of forms that a step tells apart, and what its parts hand on.
-use Rattle.std.specs.Prelude.{◌≡◌, ℕ, List, [], ◌∷◌, ◌++◌, Bool, true, false, Option, Some, None, Result, Ok, Err}
+use Rattle.std.specs.Prelude.{◌≡◌, ℕ, ◌<◌, Bool, true, false, Option, Some, None, Result, Ok, Err}
 use Rattle.c_syntax.specs.declared.text.Text.{Text}
-use Rattle.c_syntax.specs.declared.tree.Node.{Node}
 use Rattle.c_syntax.specs.declared.tree.Note.{Note}
 use Rattle.c_syntax.specs.declared.tree.Note.TheVariants as note
 use Rattle.c_syntax.specs.declared.tree.Expr.{Expr}
-use Rattle.c_syntax.specs.declared.tree.Expr.TheVariants.{Number, Char, Str, Name, Paren', Index', Member', Arrow', Call', Unary', Step', SizeOf', SizeOfType, Cast', Binary', And', Or', Cond', Assign', Comma', Probe'}
+use Rattle.c_syntax.specs.declared.tree.Expr.TheVariants.{Number, Char, Str, Name, Paren', Index', Member', Arrow', Unary', Step', SizeOf', SizeOfType, Cast', Binary', And', Or', Cond', Assign', Comma', Probe'}
 use Rattle.c_syntax.specs.declared.tree.ExprProbe.{ExprProbe}
 use Rattle.c_syntax.specs.declared.tree.ExprProbe.TheVariants as probes
 use Rattle.c_syntax.specs.declared.tree.UnaryOp.{UnaryOp}
 use Rattle.c_syntax.specs.declared.tree.UnaryOp.TheVariants as front
-use Rattle.c_syntax.specs.Shape.{TypeOf, NoteShape, typed, known, bare}
+use Rattle.c_syntax.specs.Shape.{TypeOf, NoteShape, NodeShape, typed, known, bare}
 use Rattle.c_syntax.specs.View.{node_shape}
 use Rattle.c_values.specs.Probes.{probe_number_of}
 use Rattle.c_store.specs.declared.value.Value.{Value}
 use Rattle.c_store.specs.declared.value.Pointer.{Pointer}
 use Rattle.c_tree.specs.Tables.{TablesShape}
 use Rattle.c_meaning.specs.declared.end.Stop.{Stop}
-use Rattle.c_meaning.specs.State.{State}
-use Rattle.c_meaning.specs.Results.{Got, Gives, Stops, untyped}
-use Rattle.c_meaning.specs.Places.{variable_place}
+use Rattle.c_store.specs.Cells.{read_of}
+use Rattle.c_meaning.specs.State.{State, instance_of}
+use Rattle.c_meaning.specs.Results.{Got, Gives, Stops, then_do, turn, untyped, settled, present}
+use Rattle.c_meaning.specs.Places.{variable_place, whole}
 use Rattle.c_meaning.specs.Knot.{Knot}
+use Rattle.c_meaning.specs.Expressions.{gives}
+use Rattle.c_world.specs.Steps.{found}
 use Rattle.c_world.specs.declared.world.World.{World}
 use Rattle.c_eval.specs.declared.frame.Wait.{Wait}
 use Rattle.c_eval.specs.declared.frame.Wait.TheVariants as wait
 use Rattle.c_eval.specs.declared.frame.Passed.{Passed}
 use Rattle.c_eval.specs.declared.frame.Passed.TheVariants as passed
-use Rattle.c_eval.specs.Rest.{value, place}
+use Rattle.c_eval.specs.declared.frame.Reply.{Reply}
+use Rattle.c_eval.specs.declared.frame.Reply.TheVariants as reply
+use Rattle.c_eval.specs.Rest.{value, place, replied}
 
 -- ---- worlds
 
@@ -166,6 +170,25 @@ abbrev pub fetched_as : Result (Option Value) Stop → State → Got (Option Val
 fetched_as (Ok v) s = Gives v s
 fetched_as (Err why) s = Stops why s
 
+-- the value of a variable that has one cell, with its turn
+abbrev pub scalar_value : ℕ → State → Got Value
+scalar_value v s = turn s (λ s. then_do (present (instance_of v s) s) (λ j s. settled (read_of s.store (whole j 1)) s))
+
+-- a node's turn and value were taken, or nothing was done
+abbrev pub IsAtOnce : Option Reply → TablesShape → Knot → NodeShape → State → State → Type 0
+IsAtOnce None t k e s s' = s' ≡ s
+IsAtOnce (Some r) t k e s s' = value t k e s ≡ then_do (replied r s') gives
+
+-- a turn was taken before a value
+abbrev pub IsFewer : Reply → ℕ → ℕ → Type 0
+IsFewer (reply.Value v) n m = n < m
+IsFewer (reply.Stopped why) n m = Unit {0}
+
+-- the same of a place
+abbrev pub IsPlaceAtOnce : Option (Result Pointer Stop) → TablesShape → Knot → NodeShape → State → State → Type 0
+IsPlaceAtOnce None t k e s s' = s' ≡ s
+IsPlaceAtOnce (Some r) t k e s s' = place t k e s ≡ found r s'
+
 -- the variable that is noted
 abbrev pub noted_place : TablesShape → NoteShape → State → Got Pointer
 noted_place t (typed k (Some v)) s = variable_place t k v s
@@ -217,3 +240,17 @@ takes_none wait.Truth = false
 takes_none (wait.Into q) = false
 takes_none (wait.Combine q x) = false
 takes_none (wait.Argument kinds others done) = false
+
+-- behind it nothing of the node is evaluated
+abbrev pub is_last : Wait → Bool
+is_last (wait.Second v) = true
+is_last wait.Truth = true
+is_last (wait.Into q) = true
+is_last (wait.Combine q x) = true
+is_last wait.Chosen = true
+is_last wait.Operand = false
+is_last wait.Probe = false
+is_last wait.Place = false
+is_last wait.Read = false
+is_last wait.Comma = false
+is_last (wait.Argument kinds others done) = false

@@ -6,7 +6,7 @@ use Rattle.c_syntax.specs.declared.tree.StepOp.TheVariants as way
 use Rattle.c_syntax.specs.declared.tree.BinaryOp.{BinaryOp}
 use Rattle.c_syntax.specs.declared.tree.Node.{Node}
 use Rattle.c_syntax.specs.declared.tree.UnaryOp.TheVariants as front
-use Rattle.c_syntax.specs.Shape.{TypeOf, Step, NoteShape, NodeShape, ExprShape, unary, before, plain, and, or, assign, comma, dot, arrow, prefix, cast, suffix, two, choose, probe, index, field, behind, simple, select, test, used, def}
+use Rattle.c_syntax.specs.Shape.{Step, NoteShape, NodeShape, ExprShape, unary, before, plain, and, or, assign, comma, dot, arrow, prefix, cast, suffix, two, choose, probe, index, field, behind, simple, select, test, used, def}
 use Rattle.c_syntax.specs.View.{type_of, note_shape, expr_shape, node_shape, node_list}
 use Rattle.c_store.specs.declared.value.Value.{Value}
 use Rattle.c_store.specs.declared.value.Value.TheVariants.{Int, At}
@@ -14,7 +14,6 @@ use Rattle.c_store.specs.declared.value.Pointer.{Pointer}
 use Rattle.c_tree.specs.Tables.{TablesShape}
 use Rattle.c_items.specs.declared.around.Taken.TheVariants.{Read as Reading}
 use Rattle.c_items.specs.Tests.{choosing}
-use Rattle.c_meaning.specs.declared.end.Stop.{Stop}
 use Rattle.c_meaning.specs.State.{State}
 use Rattle.c_meaning.specs.Results.{Got, Gives, Stops, then_do, untyped, settled, present, needed}
 use Rattle.c_meaning.specs.Operators.{converted, is_true, operated, stepped_by_one, element_pointer, of_one, target, pointed}

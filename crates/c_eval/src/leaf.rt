@@ -18,6 +18,7 @@ ghost use Rattle.c_eval.specs.Rest.{value, replied, combined, element_at, is_fro
 ghost use Rattle.c_eval.specs.Forms.{fetched_as, is_leaf, noted_kind};
 
 use crate::frame::Reply;
+use crate::number::number;
 use atac_base::place::IntKind;
 use c_arith::convert;
 use c_compute::layout::part_in;
@@ -27,22 +28,19 @@ use c_store::value::{Fault, Pointer, Value};
 use c_syntax::text::Text;
 use c_syntax::tree::{BinaryOp, CType, Expr, Node, Note, StepOp, UnaryOp};
 use c_tree::tables::Tables;
-use c_values::numbers::number_of;
 use c_world::places::{cells_in, object_at};
 use c_world::world::World;
 
 // ---- leaves
 
 /// The value of a constant, a literal or a `sizeof` (C89, 3.1.3, 3.1.4 and 3.3.3.4), whose turn was taken.
+#[inline(always)]
 pub fn leaf(node: &Node) -> Reply
     requires { is_leaf node.now.note node.now.form ≡ true }
     ensures { (t : TablesShape) (k : Knot) (s : State) → value t k (node_shape node.now) (one_more s) ≡ then_do (replied result s) gives }
 {
     match &node.form {
-        Expr::Number(text) => match number_of(text.bytes()) {
-            Some(number) => Reply::Value(Value::Int(i128::from(number.value))),
-            None => Reply::Stopped(Stop::Fault(Fault::NoResult)),
-        },
+        Expr::Number(text) => number(text.bytes()),
         Expr::Char(byte) => Reply::Value(Value::Int(convert(i128::from(*byte), IntKind::Char))),
         Expr::Str(text) => literal(&node.note, text),
         _ => noted(&node.note),

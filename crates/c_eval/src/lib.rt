@@ -2,8 +2,10 @@
 #![tactic(auto)]
 
 pub mod advance;
+mod at_once;
 mod builtins;
 pub mod frame;
 mod leaf;
+mod number;
 mod telling;
 pub mod work;

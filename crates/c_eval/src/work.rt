@@ -10,6 +10,8 @@ ghost use Rattle.c_eval.specs.Rest.{value, place, Val, Spot, to_value, to_spot, 
 ghost use Rattle.c_eval.specs.Forms.{Kept};
 
 mod calling;
+mod finishing;
+mod first;
 mod opening;
 mod passing;
 mod placing;

@@ -11,8 +11,9 @@ ghost use Rattle.c_eval.specs.Forms.{Kept, told, is_probe, is_bare_place, is_bar
 
 use super::Work;
 use super::passing::pass_place;
+use crate::at_once::at_once;
 use crate::builtins::built_in;
-use crate::frame::{Frame, Passed, Step, Wait};
+use crate::frame::{Frame, Passed, Reply, Step, Wait};
 use crate::telling::tell_test;
 use atac_base::place::NoMemory;
 use c_meaning::end::Stop;
@@ -36,15 +37,35 @@ impl<'p> Work<'p> {
     {
         match self.pass(world, node)? {
             Passed::Stopped(why) => Ok(Step::Stopped(why)),
-            Passed::Node(node) => {
-                if stands(node) {
-                    let step = self.read(tables, world, node)?;
-                    Ok(step)
-                } else {
-                    let step = self.enter(tables, world, node)?;
+            Passed::Node(node) => match at_once(world, node) {
+                Some(Reply::Value(value)) => Ok(self.now(Some(value))),
+                Some(Reply::Stopped(why)) => Ok(Step::Stopped(why)),
+                None => {
+                    let step = self.descend(tables, world, node)?;
                     Ok(step)
                 }
-            }
+            },
+        }
+    }
+
+    // A node with operands.
+    fn descend(
+        &mut self,
+        tables: &'p Tables,
+        world: &mut World<'p>,
+        node: &'p Node,
+    ) -> Result<Step, NoMemory>
+        requires { is_bare node.now.form ≡ true }
+        ensures rest { IfOk result (λ a. (k : Knot) (h : List Event) → rest_after (tables_shape tables.now) k a self.new (state_of world.new h) ≡ then_do (value (tables_shape tables.now) k (node_shape node.now) (state_of world.old h)) (to_value (left (tables_shape tables.now) k self.old))) }
+        ensures falls { IfOk result (λ a. Lower a (4 * world.new.turns + size_after a self.new) (4 * world.old.turns + weights self.old.stack.items)) }
+        ensures kept { OnOk result (Kept world.old world.new) }
+    {
+        if stands(node) {
+            let step = self.read(tables, world, node)?;
+            Ok(step)
+        } else {
+            let step = self.enter(tables, world, node)?;
+            Ok(step)
         }
     }
 

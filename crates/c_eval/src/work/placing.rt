@@ -39,11 +39,11 @@ impl<'p> Work<'p> {
         match &node.form {
             Expr::Name(_) => Ok(self.variable(tables, world, &node.note)),
             Expr::Unary(UnaryOp::Deref, a) | Expr::Index(a, _) | Expr::Arrow(a, _, _) => {
-                let step = self.go(node, Wait::Operand, a)?;
+                let step = self.first(tables, world, node, a)?;
                 Ok(step)
             }
             Expr::Member(a, _, _) => {
-                let step = self.go_to_place(node, Wait::Place, a)?;
+                let step = self.first_place(tables, world, node, a)?;
                 Ok(step)
             }
             Expr::Comma(a, _) => {

@@ -48,7 +48,7 @@ impl<'p> Work<'p> {
                 Ok(step)
             }
             Expr::Unary(_, _) | Expr::Step(_, _) | Expr::Cast(_, _) => {
-                let step = self.begin_prefix(node)?;
+                let step = self.begin_prefix(tables, world, node)?;
                 Ok(step)
             }
             Expr::Binary(_, _, _)
@@ -57,7 +57,7 @@ impl<'p> Work<'p> {
             | Expr::Cond(_, _, _)
             | Expr::Assign(_, _, _)
             | Expr::Comma(_, _) => {
-                let step = self.begin_infix(node)?;
+                let step = self.begin_infix(tables, world, node)?;
                 Ok(step)
             }
             Expr::Paren(_)
@@ -69,72 +69,95 @@ impl<'p> Work<'p> {
     }
 
     // An operator with one operand, whose turn was taken.
-    fn begin_prefix(&mut self, node: &'p Node) -> Result<Step, NoMemory>
+    fn begin_prefix(
+        &mut self,
+        tables: &'p Tables,
+        world: &mut World<'p>,
+        node: &'p Node,
+    ) -> Result<Step, NoMemory>
         requires { is_prefix node.now.form ≡ true }
-        ensures rest { IfOk result (λ a. (t : TablesShape) (k : Knot) (s : State) → rest_after t k a self.new s ≡ then_do (value t k (node_shape node.now) (one_more s)) (to_value (left t k self.old))) }
+        ensures rest { IfOk result (λ a. (k : Knot) (h : List Event) → rest_after (tables_shape tables.now) k a self.new (state_of world.new h) ≡ then_do (value (tables_shape tables.now) k (node_shape node.now) (one_more (state_of world.old h))) (to_value (left (tables_shape tables.now) k self.old))) }
         ensures size { IfOk result (λ a. size_after a self.new ≤ 1 + weights self.old.stack.items) }
+        ensures kept { OnOk result (Kept world.old world.new) }
+        ensures turns { OnOk result (world.new.turns ≤ world.old.turns) }
     {
         match &node.form {
             Expr::Unary(op, a) => {
-                let step = self.begin_unary(node, *op, a)?;
+                let step = self.begin_unary(tables, world, node, *op, a)?;
                 Ok(step)
             }
             Expr::Cast(_, a) => {
-                let step = self.go(node, Wait::Operand, a)?;
+                let step = self.first(tables, world, node, a)?;
                 Ok(step)
             }
             Expr::Step(_, a) => {
-                let step = self.go_to_place(node, Wait::Place, a)?;
+                let step = self.first_place(tables, world, node, a)?;
                 Ok(step)
             }
             _ => unreachable!(),
         }
     }
 
-    fn begin_unary(&mut self, node: &'p Node, op: UnaryOp, a: &'p Node) -> Result<Step, NoMemory>
+    fn begin_unary(
+        &mut self,
+        tables: &'p Tables,
+        world: &mut World<'p>,
+        node: &'p Node,
+        op: UnaryOp,
+        a: &'p Node,
+    ) -> Result<Step, NoMemory>
         requires form { expr_shape node.now.form ≡ prefix (unary op) (node_shape a.now) }
         requires value { is_deref op ≡ false }
-        ensures rest { IfOk result (λ a. (t : TablesShape) (k : Knot) (s : State) → rest_after t k a self.new s ≡ then_do (value t k (node_shape node.now) (one_more s)) (to_value (left t k self.old))) }
+        ensures rest { IfOk result (λ a. (k : Knot) (h : List Event) → rest_after (tables_shape tables.now) k a self.new (state_of world.new h) ≡ then_do (value (tables_shape tables.now) k (node_shape node.now) (one_more (state_of world.old h))) (to_value (left (tables_shape tables.now) k self.old))) }
         ensures size { IfOk result (λ a. size_after a self.new ≤ 1 + weights self.old.stack.items) }
+        ensures kept { OnOk result (Kept world.old world.new) }
+        ensures turns { OnOk result (world.new.turns ≤ world.old.turns) }
     {
         if is_address(op) {
-            let step = self.go_to_place(node, Wait::Place, a)?;
+            let step = self.first_place(tables, world, node, a)?;
             Ok(step)
         } else {
-            let step = self.go(node, Wait::Operand, a)?;
+            let step = self.first(tables, world, node, a)?;
             Ok(step)
         }
     }
 
     // An operator with more operands, whose turn was taken.
-    fn begin_infix(&mut self, node: &'p Node) -> Result<Step, NoMemory>
+    fn begin_infix(
+        &mut self,
+        tables: &'p Tables,
+        world: &mut World<'p>,
+        node: &'p Node,
+    ) -> Result<Step, NoMemory>
         requires { is_infix node.now.form ≡ true }
-        ensures rest { IfOk result (λ a. (t : TablesShape) (k : Knot) (s : State) → rest_after t k a self.new s ≡ then_do (value t k (node_shape node.now) (one_more s)) (to_value (left t k self.old))) }
+        ensures rest { IfOk result (λ a. (k : Knot) (h : List Event) → rest_after (tables_shape tables.now) k a self.new (state_of world.new h) ≡ then_do (value (tables_shape tables.now) k (node_shape node.now) (one_more (state_of world.old h))) (to_value (left (tables_shape tables.now) k self.old))) }
         ensures size { IfOk result (λ a. size_after a self.new ≤ 1 + weights self.old.stack.items) }
+        ensures kept { OnOk result (Kept world.old world.new) }
+        ensures turns { OnOk result (world.new.turns ≤ world.old.turns) }
     {
         match &node.form {
             Expr::Binary(_, a, _) => {
-                let step = self.go(node, Wait::Operand, a)?;
+                let step = self.first(tables, world, node, a)?;
                 Ok(step)
             }
             Expr::And(a, _) => {
-                let step = self.go(node, Wait::Operand, a)?;
+                let step = self.first(tables, world, node, a)?;
                 Ok(step)
             }
             Expr::Or(a, _) => {
-                let step = self.go(node, Wait::Operand, a)?;
+                let step = self.first(tables, world, node, a)?;
                 Ok(step)
             }
             Expr::Cond(a, _, _) => {
-                let step = self.go(node, Wait::Operand, a)?;
+                let step = self.first(tables, world, node, a)?;
                 Ok(step)
             }
             Expr::Comma(a, _) => {
-                let step = self.go(node, Wait::Operand, a)?;
+                let step = self.first(tables, world, node, a)?;
                 Ok(step)
             }
             Expr::Assign(_, a, _) => {
-                let step = self.go_to_place(node, Wait::Place, a)?;
+                let step = self.first_place(tables, world, node, a)?;
                 Ok(step)
             }
             _ => unreachable!(),

@@ -112,7 +112,7 @@ impl<'p> Work<'p> {
 
     // The first operand of an operator.
     #[inline(always)]
-    fn take_operand(
+    pub(super) fn take_operand(
         &mut self,
         tables: &'p Tables,
         world: &mut World<'p>,
@@ -121,11 +121,12 @@ impl<'p> Work<'p> {
     ) -> Result<Step, NoMemory>
         ensures rest { IfOk result (λ a. (k : Knot) (h : List Event) → rest_after (tables_shape tables.now) k a self.new (state_of world.new h) ≡ on_operand (tables_shape tables.now) k (note_shape node.now.note) (expr_shape node.now.form) (left (tables_shape tables.now) k self.old) (Val (Some value)) (state_of world.old h)) }
         ensures size { IfOk result (λ a. size_after a self.new ≤ 1 + weights self.old.stack.items) }
-        ensures same { OnOk result (world.new ≡ world.old) }
+        ensures kept { OnOk result (Kept world.old world.new) }
+        ensures turns { OnOk result (world.new.turns ≤ world.old.turns) }
     {
         match &node.form {
             Expr::Binary(_, _, b) | Expr::Index(_, b) => {
-                let step = self.go(node, Wait::Second(value), b)?;
+                let step = self.last(world, node, Wait::Second(value), b)?;
                 Ok(step)
             }
             Expr::Unary(UnaryOp::Deref, _) => Ok(self.settled(target(value))),
@@ -133,7 +134,7 @@ impl<'p> Work<'p> {
             Expr::Cast(_, _) => Ok(self.cast(node, Some(value))),
             Expr::Arrow(a, name, _) => Ok(self.found(field_behind(tables, world, name, a, value))),
             Expr::And(_, _) | Expr::Or(_, _) | Expr::Cond(_, _, _) | Expr::Comma(_, _) => {
-                let step = self.take_test(node, value)?;
+                let step = self.take_test(world, node, value)?;
                 Ok(step)
             }
             _ => Ok(Step::Stopped(Stop::Fault(Fault::NoResult))),
@@ -141,15 +142,22 @@ impl<'p> Work<'p> {
     }
 
     // An operand behind which another one is evaluated or not.
-    fn take_test(&mut self, node: &'p Node, value: Value) -> Result<Step, NoMemory>
+    fn take_test(
+        &mut self,
+        world: &mut World<'p>,
+        node: &'p Node,
+        value: Value,
+    ) -> Result<Step, NoMemory>
         requires { is_choosing node.now.form ≡ true }
-        ensures rest { IfOk result (λ a. (t : TablesShape) (k : Knot) (s : State) → rest_after t k a self.new s ≡ on_operand t k (note_shape node.now.note) (expr_shape node.now.form) (left t k self.old) (Val (Some value)) s) }
+        ensures rest { IfOk result (λ a. (t : TablesShape) (k : Knot) (h : List Event) → rest_after t k a self.new (state_of world.new h) ≡ on_operand t k (note_shape node.now.note) (expr_shape node.now.form) (left t k self.old) (Val (Some value)) (state_of world.old h)) }
         ensures size { IfOk result (λ a. size_after a self.new ≤ 1 + weights self.old.stack.items) }
+        ensures kept { OnOk result (Kept world.old world.new) }
+        ensures turns { OnOk result (world.new.turns ≤ world.old.turns) }
     {
         match &node.form {
             Expr::And(_, b) => {
                 if is_true(value) {
-                    let step = self.go(node, Wait::Truth, b)?;
+                    let step = self.last(world, node, Wait::Truth, b)?;
                     Ok(step)
                 } else {
                     Ok(self.now(Some(Value::Int(0))))
@@ -159,16 +167,16 @@ impl<'p> Work<'p> {
                 if is_true(value) {
                     Ok(self.now(Some(Value::Int(1))))
                 } else {
-                    let step = self.go(node, Wait::Truth, b)?;
+                    let step = self.last(world, node, Wait::Truth, b)?;
                     Ok(step)
                 }
             }
             Expr::Cond(_, b, c) => {
                 if is_true(value) {
-                    let step = self.go(node, Wait::Chosen, b)?;
+                    let step = self.last(world, node, Wait::Chosen, b)?;
                     Ok(step)
                 } else {
-                    let step = self.go(node, Wait::Chosen, c)?;
+                    let step = self.last(world, node, Wait::Chosen, c)?;
                     Ok(step)
                 }
             }
@@ -179,7 +187,7 @@ impl<'p> Work<'p> {
 
     // The second operand of an operator.
     #[inline(always)]
-    fn take_second(&mut self, node: &'p Node, first: Value, value: Value) -> Step
+    pub(super) fn take_second(&mut self, node: &'p Node, first: Value, value: Value) -> Step
         ensures rest { (t : TablesShape) (k : Knot) (s : State) → rest_after t k result self.new s ≡ on_second (expr_shape node.now.form) first (left t k self.old) (Val (Some value)) s }
         ensures size { size_after result self.new ≤ 1 + weights self.old.stack.items }
     {
@@ -203,7 +211,7 @@ impl<'p> Work<'p> {
 
     // The right side of `=`.
     #[inline(always)]
-    fn take_written(
+    pub(super) fn take_written(
         &mut self,
         world: &mut World<'p>,
         node: &'p Node,
@@ -226,7 +234,7 @@ impl<'p> Work<'p> {
 
     // The right side of an assignment with an operator.
     #[inline(always)]
-    fn take_combined(
+    pub(super) fn take_combined(
         &mut self,
         world: &mut World<'p>,
         node: &'p Node,
@@ -259,7 +267,6 @@ impl<'p> Work<'p> {
         ensures rest { IfOk result (λ a. (k : Knot) (h : List Event) → rest_after (tables_shape tables.now) k a self.new (state_of world.new h) ≡ does (tables_shape tables.now) k frame.entry (left (tables_shape tables.now) k self.old) (Spot at) (state_of world.old h)) }
         ensures falls { IfOk result (λ a. Lower a (4 * world.new.turns + size_after a self.new) (4 * world.old.turns + (1 + (weight frame.entry + weights self.old.stack.items)))) }
         ensures kept { OnOk result (Kept world.old world.new) }
-        ensures turns { OnOk result (world.new.turns ≡ world.old.turns) }
     {
         let Frame { node, wait } = frame;
         match wait {
@@ -285,7 +292,7 @@ impl<'p> Work<'p> {
 
     // The place of an operand.
     #[inline(always)]
-    fn take_found(
+    pub(super) fn take_found(
         &mut self,
         tables: &'p Tables,
         world: &mut World<'p>,
@@ -295,17 +302,17 @@ impl<'p> Work<'p> {
         ensures rest { IfOk result (λ a. (k : Knot) (h : List Event) → rest_after (tables_shape tables.now) k a self.new (state_of world.new h) ≡ on_found (tables_shape tables.now) k (expr_shape node.now.form) (left (tables_shape tables.now) k self.old) (Spot at) (state_of world.old h)) }
         ensures size { IfOk result (λ a. size_after a self.new ≤ 1 + weights self.old.stack.items) }
         ensures kept { OnOk result (Kept world.old world.new) }
-        ensures turns { OnOk result (world.new.turns ≡ world.old.turns) }
+        ensures turns { OnOk result (world.new.turns ≤ world.old.turns) }
     {
         match &node.form {
             Expr::Assign(None, _, b) => {
-                let step = self.go(node, Wait::Into(at), b)?;
+                let step = self.last(world, node, Wait::Into(at), b)?;
                 Ok(step)
             }
             Expr::Assign(Some(_), a, b) => match load(world, a, at)? {
                 Reply::Stopped(why) => Ok(Step::Stopped(why)),
                 Reply::Value(left) => {
-                    let step = self.go(node, Wait::Combine(at, left), b)?;
+                    let step = self.last(world, node, Wait::Combine(at, left), b)?;
                     Ok(step)
                 }
             },

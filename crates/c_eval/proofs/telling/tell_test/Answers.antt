@@ -1,4 +1,3 @@
-use Rattle.std.proofs.Common.{◌∙◌}
 use Rattle.c_world.specs.World.{state_of}
 use Rattle.c_eval.proofs.Told.{probe_form, select_told}
 use Rattle.c_eval.proofs.telling.tell_test.Goals as goal

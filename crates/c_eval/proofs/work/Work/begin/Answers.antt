@@ -1,5 +1,4 @@
 use Rattle.std.proofs.Common.{◌∙◌, ap, sym}
-use Rattle.c_syntax.specs.View.{node_shape}
 use Rattle.c_tree.specs.Tables.{tables_shape}
 use Rattle.c_meaning.specs.Results.{then_do}
 use Rattle.c_world.specs.World.{state_of}

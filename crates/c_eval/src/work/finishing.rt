@@ -1,0 +1,89 @@
+ghost use Rattle.std.specs.Prelude.{◌≡◌, ◌≤◌, ◌+◌, List, Option, Some, true, IfOk, OnOk};
+ghost use Rattle.atac_base.specs.declared.probes.Event.{Event};
+ghost use Rattle.c_syntax.specs.View.{node_shape, expr_shape};
+ghost use Rattle.c_store.specs.declared.value.Value.{Value};
+ghost use Rattle.c_tree.specs.Tables.{TablesShape};
+ghost use Rattle.c_meaning.specs.State.{State};
+ghost use Rattle.c_meaning.specs.Results.{then_do};
+ghost use Rattle.c_meaning.specs.Knot.{Knot};
+ghost use Rattle.c_world.specs.World.{state_of};
+ghost use Rattle.c_eval.specs.Rest.{value, Val, waiting, on_second, on_written, on_combined, left, rest, rest_after, weights, size, size_after};
+ghost use Rattle.c_eval.specs.Forms.{Kept, is_last};
+
+use super::Work;
+use crate::at_once::at_once;
+use crate::frame::{Reply, Step, Wait};
+use crate::leaf::{combined, converted_by, element_at, truth_at};
+use crate::telling::{write, write_combined};
+use atac_base::place::NoMemory;
+use c_meaning::end::Stop;
+use c_store::value::{Fault, Pointer, Value};
+use c_syntax::tree::{Expr, Node};
+use c_world::world::World;
+
+#[tactic(auto, using(crate::proofs::Steps::frames_push, crate::proofs::Steps::weights_push, crate::proofs::Steps::then_then, crate::proofs::Once::once_given, crate::proofs::Once::once_stopped))]
+impl<'p> Work<'p> {
+    // A last operand, whose value the node waits for, if it hasn't it at once.
+    #[inline(always)]
+    pub(super) fn last(
+        &mut self,
+        world: &mut World<'p>,
+        node: &'p Node,
+        wait: Wait<'p>,
+        operand: &'p Node,
+    ) -> Result<Step, NoMemory>
+        requires { is_last wait ≡ true }
+        ensures rest { IfOk result (λ a. (t : TablesShape) (k : Knot) (h : List Event) → rest_after t k a self.new (state_of world.new h) ≡ then_do (value t k (node_shape operand.now) (state_of world.old h)) (λ v s. waiting t k node.now wait.entry (left t k self.old) (Val v) s)) }
+        ensures size { IfOk result (λ a. size_after a self.new ≤ 1 + weights self.old.stack.items) }
+        ensures kept { OnOk result (Kept world.old world.new) }
+        ensures turns { OnOk result (world.new.turns ≤ world.old.turns) }
+    {
+        match at_once(world, operand) {
+            None => {
+                let step = self.go(node, wait, operand)?;
+                Ok(step)
+            }
+            Some(Reply::Stopped(why)) => Ok(Step::Stopped(why)),
+            Some(Reply::Value(value)) => {
+                let step = self.finish(world, node, wait, value)?;
+                Ok(step)
+            }
+        }
+    }
+
+    // The value of a last operand.
+    #[inline(always)]
+    pub(super) fn finish(
+        &mut self,
+        world: &mut World<'p>,
+        node: &'p Node,
+        wait: Wait<'p>,
+        value: Value,
+    ) -> Result<Step, NoMemory>
+        requires { is_last wait ≡ true }
+        ensures rest { IfOk result (λ a. (t : TablesShape) (k : Knot) (h : List Event) → rest_after t k a self.new (state_of world.new h) ≡ waiting t k node.now wait.entry (left t k self.old) (Val (Some value)) (state_of world.old h)) }
+        ensures size { IfOk result (λ a. size_after a self.new ≤ 1 + weights self.old.stack.items) }
+        ensures kept { OnOk result (Kept world.old world.new) }
+        ensures turns { OnOk result (world.new.turns ≡ world.old.turns) }
+    {
+        match wait {
+            Wait::Second(first) => Ok(self.take_second(node, first, value)),
+            Wait::Truth => Ok(self.now(Some(truth_at(value)))),
+            Wait::Into(at) => {
+                let step = self.take_written(world, node, at, value)?;
+                Ok(step)
+            }
+            Wait::Combine(at, first) => {
+                let step = self.take_combined(world, node, at, first, value)?;
+                Ok(step)
+            }
+            Wait::Chosen => Ok(self.now(converted_by(node, Some(value)))),
+            Wait::Operand
+            | Wait::Probe
+            | Wait::Place
+            | Wait::Read
+            | Wait::Comma
+            | Wait::Argument(_, _, _) => unreachable!(),
+        }
+    }
+}
