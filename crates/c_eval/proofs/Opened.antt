@@ -1,5 +1,5 @@
 -- What a node whose turn was taken has still to do is what it waits for.
-use Rattle.std.proofs.Common.{◌≡◌, List, [], ◌∷◌, ◌++◌, Option, Some, None, true, false, Vec, Global, map, refl, sym, ap, ◌∙◌, append_assoc}
+use Rattle.std.proofs.Common.{◌≡◌, List, [], ◌∷◌, ◌++◌, Option, Some, None, true, false, Vec, Global, map, refl, sym, ap, ◌∙◌, append_assoc, append-nil, length, arith}
 use Rattle.std.proofs.lemmas.Bool.{true≢false}
 use Rattle.std.specs.Borrow.{Bor}
 use Rattle.c_syntax.specs.declared.tree.CType.{CType}
@@ -31,7 +31,8 @@ use Rattle.c_meaning.specs.Builtins.{called, params_of, as_parameter}
 use Rattle.c_meaning.specs.Expressions.{meaning, arguments, gives, operand, cast_value, last_test, assigned}
 use Rattle.c_compute.specs.Narrow.{direction}
 use Rattle.c_eval.specs.declared.frame.Wait.TheVariants as wait
-use Rattle.c_eval.specs.Rest.{value, place, Val, Spot, Taker, to_value, waiting, combined, combined_into, stepped_there, is_front, one_more, on_operand, on_found}
+use Rattle.c_eval.specs.declared.frame.Reply.TheVariants as reply
+use Rattle.c_eval.specs.Rest.{replied, value, place, Val, Spot, Taker, to_value, waiting, combined, combined_into, stepped_there, is_front, one_more, on_operand, on_found}
 use Rattle.c_eval.specs.Forms.{is_address, is_deref}
 use Rattle.c_eval.proofs.Steps.{then_then, needed_then, tested_then, last_then, at_place}
 
@@ -113,6 +114,10 @@ module _ (t : TablesShape) (k : Knot) (e : Node) (s : State) (go : Taker) where
   step_found way.PostInc a q = refl
   step_found way.PostDec a q = refl
 
+  -- the right operand behind the left one's value
+  pub second_opens : (u : BinaryOp) (a b : NodeShape) (v : Value) → expr_shape e.form ≡ two (plain u) a b → then_do (value t k b s) (λ w s. waiting t k e (wait.Second v) go (Val w) s) ≡ waiting t k e wait.Operand go (Val (Some v)) s
+  second_opens u a b v is = rw is (needed_then (value t k b s) (combined u a b v) (to_value go))
+
   pub and_taken : (a b x : NodeShape) (v : Value) → expr_shape e.form ≡ two and a b → x ≡ b → is_true v ≡ true → then_do (value t k x s) (λ v s. waiting t k e wait.Truth go (Val v) s) ≡ on_operand t k (note_shape e.note) (expr_shape e.form) go (Val (Some v)) s
   and_taken a b x v is i e' = rw (i, is, e') (last_then t k b s (to_value go))
 
@@ -140,6 +145,20 @@ module _ (t : TablesShape) (k : Knot) (e : Node) (s : State) (go : Taker) where
 pub one_done : (t : TablesShape) (k : Knot) (n : NoteShape) (q : Got (List Value)) (before : List Value) (v : Value) (go : Option Value → State → Got (Option Value)) → then_do (then_do q (λ vs. called t k n ((before ++ v ∷ []) ++ vs))) go ≡ then_do (then_do q (λ vs. called t k n (before ++ v ∷ vs))) go
 one_done t k n (Gives vs s) before v go = ap (λ xs. then_do (called t k n xs s) go) (append_assoc before (v ∷ []) vs)
 one_done t k n (Stops why s) before v go = refl
+
+-- no argument is to come
+pub no_arguments : (t : TablesShape) (k : Knot) (n : NoteShape) (xs : List Node) (ts : List TypeOf) (s : State) (done : List Value) (go : Option Value → State → Got (Option Value)) → length xs ≡ 0 → then_do (called t k n done s) go ≡ then_do (then_do (arguments t k (node_list xs) ts (quiet 0) s) (λ vs. called t k n (done ++ vs))) go
+no_arguments t k n [] ts s done go i = ap (λ ys. then_do (called t k n ys s) go) (sym (append-nil done))
+no_arguments t k n (x ∷ xs) ts s done go i = absurd (omega (arith, i))
+
+-- an argument that was had at once
+pub argument_taken : (t : TablesShape) (k : Knot) (n : NoteShape) (a : Node) (xs rest : List Node) (ts us : List TypeOf) (s s' : State) (v p : Value) (done done' : List Value) (go : Option Value → State → Got (Option Value)) → value t k (node_shape a) s ≡ then_do (replied (reply.Value v) s') gives → xs ≡ a ∷ rest → us ≡ drop 1 ts → p ≡ as_parameter ts v → done' ≡ done ++ p ∷ [] → then_do (then_do (arguments t k (node_list rest) us (quiet 0) s') (λ vs. called t k n (done' ++ vs))) go ≡ then_do (then_do (arguments t k (node_list xs) ts (quiet 0) s) (λ vs. called t k n (done ++ vs))) go
+argument_taken t k n a xs rest ts us s s' v p done done' go e i j l m =
+    let q = arguments t k (node_list rest) (drop 1 ts) (quiet 0) s' in
+    let w = as_parameter ts v in
+    rw (i, j, m, l) (one_done t k n q done w go
+    ∙ args_gave q (λ vs. w ∷ vs) (λ vs. called t k n (done ++ w ∷ vs)) (λ vs. called t k n (done ++ vs)) go (λ vs s. refl)
+    ∙ ap (λ r. then_do (then_do (then_do (needed r) (λ v s. then_do (arguments t k (node_list rest) (drop 1 ts) (quiet 0) s) (λ vs. Gives (as_parameter ts v ∷ vs)))) (λ vs. called t k n (done ++ vs))) go) (sym e))
 
 -- a call's shape
 pub call_opens : (t : TablesShape) (k : Knot) (e : Node) (x : Text) (v : Vec Node Global) (xs : List Node) (s : State) (go : Taker) → e.form ≡ Call x v → xs ≡ v.items → then_do (then_do (arguments t k (node_list xs) (params_of t (note_shape e.note)) (quiet 0) s) (called t k (note_shape e.note))) (to_value go) ≡ then_do (value t k (node_shape e) (one_more s)) (to_value go)

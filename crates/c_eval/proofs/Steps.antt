@@ -69,6 +69,13 @@ lower_up (step.Answer v) n m m' lt le = omega (arith, lt, le)
 lower_up (step.Call f args) n m m' lt le = omega (arith, lt, le)
 lower_up (step.Stopped why) n m m' lt le = tt
 
+-- so does what falls below what is lower
+pub lower_less : (a : Step) (n m l : ℕ) → Lower a n m → m < l → Lower a n l
+lower_less step.More n m l lt lt' = omega (arith, lt, lt')
+lower_less (step.Answer v) n m l lt lt' = omega (arith, lt, lt')
+lower_less (step.Call f args) n m l lt lt' = omega (arith, lt, lt')
+lower_less (step.Stopped why) n m l lt lt' = tt
+
 pub lower_one : (a : Step) (n m m' : ℕ) → Lower a n m → m + 1 ≤ m' → Lower a (1 + n) m'
 lower_one step.More n m m' lt le = omega (arith, lt, le)
 lower_one (step.Answer v) n m m' lt le = omega (arith, lt, le)

@@ -9,12 +9,14 @@ ghost use Rattle.c_world.specs.World.{state_of};
 ghost use Rattle.c_eval.specs.Rest.{value, place, Val, Spot, to_value, to_spot, waiting, left, rest, rest_after, wait_weight, weights, size, size_after, Lower, replied};
 ghost use Rattle.c_eval.specs.Forms.{Kept};
 
+mod binary;
 mod calling;
 mod finishing;
 mod first;
 mod opening;
 mod passing;
 mod placing;
+mod settling;
 mod starting;
 mod taking;
 
@@ -66,7 +68,8 @@ impl<'p> Work<'p> {
         self.focus = Focus::Given(given);
     }
 
-    /// One step: a node with the parentheses and probes round it, or what is come to for what waits for it.
+    /// One step: a node with the parentheses and probes round it and the operands that have none, or what is come to for what
+    /// waits for it.
     pub fn step(&mut self, tables: &'p Tables, world: &mut World<'p>) -> Result<Step, NoMemory>
         ensures rest { IfOk result (λ a. (k : Knot) (h : List Event) → rest_after (tables_shape tables.now) k a self.new (state_of world.new h) ≡ rest (tables_shape tables.now) k self.old (state_of world.old h)) }
         ensures falls { IfOk result (λ a. Lower a (4 * world.new.turns + size_after a self.new) (4 * world.old.turns + size self.old)) }
@@ -75,10 +78,12 @@ impl<'p> Work<'p> {
         match self.focus {
             Focus::Value(node) => {
                 let step = self.open(tables, world, node)?;
+                let step = self.settle(tables, world, step)?;
                 Ok(step)
             }
             Focus::Place(node) => {
                 let step = self.open_place(tables, world, node)?;
+                let step = self.settle(tables, world, step)?;
                 Ok(step)
             }
             Focus::Given(value) => {
@@ -155,13 +160,15 @@ impl<'p> Work<'p> {
         Step::More
     }
 
-    // A value, or none.
+    // A value, or none, which is the expression's where nothing waits.
     #[inline(always)]
     pub(super) fn now(&mut self, value: Option<Value>) -> Step
         ensures rest { (t : TablesShape) (k : Knot) (s : State) → rest_after t k result self.new s ≡ left t k self.old (Val value) s }
-        ensures size { size_after result self.new ≡ 1 + weights self.old.stack.items }
-        ensures more { result ≡ Step.More }
+        ensures size { size_after result self.new ≤ 1 + weights self.old.stack.items }
     {
+        if self.stack.is_empty() {
+            return Step::Answer(value);
+        }
         self.focus = Focus::Given(value);
         Step::More
     }

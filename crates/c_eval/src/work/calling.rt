@@ -14,8 +14,9 @@ ghost use Rattle.c_eval.specs.Forms.{Kept};
 
 use super::Work;
 use super::passing::pass_place;
+use crate::at_once::at_once;
 use crate::builtins::built_in;
-use crate::frame::{Step, Wait};
+use crate::frame::{Reply, Step, Wait};
 use atac_base::place::NoMemory;
 use c_compute::operators::converted;
 use c_meaning::end::Stop;
@@ -38,19 +39,48 @@ impl<'p> Work<'p> {
         ensures falls { IfOk result (λ a. Lower a (4 * world.new.turns + size_after a self.new) (4 * world.old.turns + 2 + weights self.old.stack.items)) }
         ensures kept { OnOk result (Kept world.old world.new) }
     {
-        match args.split_first() {
-            None => {
-                let step = self.invoke(tables, world, node, Vec::new(self.alloc))?;
-                Ok(step)
-            }
-            Some((first, others)) => {
-                let kinds = params(tables, &node.note);
-                let step = self.go(
-                    node,
-                    Wait::Argument(kinds, others, Vec::new(self.alloc)),
-                    first,
-                )?;
-                Ok(step)
+        let kinds = params(tables, &node.note);
+        let step = self.arguments(tables, world, node, kinds, args, Vec::new(self.alloc))?;
+        Ok(step)
+    }
+
+    // The arguments to come, behind those that are done: the value of each that has no operands is taken at once.
+    fn arguments(
+        &mut self,
+        tables: &'p Tables,
+        world: &mut World<'p>,
+        node: &'p Node,
+        kinds: &'p [CType],
+        others: &'p [Node],
+        done: Vec<Value>,
+    ) -> Result<Step, NoMemory>
+        ensures rest { IfOk result (λ a. (k : Knot) (h : List Event) → rest_after (tables_shape tables.now) k a self.new (state_of world.new h) ≡ then_do (then_do (arguments (tables_shape tables.now) k (node_list others.now) (map type_of kinds.now) (quiet 0) (state_of world.old h)) (λ vs. called (tables_shape tables.now) k (note_shape node.now.note) (done.items ++ vs))) (to_value (left (tables_shape tables.now) k self.old))) }
+        ensures size { IfOk result (λ a. size_after a self.new ≤ 1 + weights self.old.stack.items) }
+        ensures kept { OnOk result (Kept world.old world.new) }
+        ensures turns { OnOk result (world.new.turns ≤ world.old.turns) }
+    {
+        let mut kinds = kinds;
+        let mut others = others;
+        let mut done = done;
+        loop {
+            let Some((first, behind)) = others.split_first() else {
+                let step = self.invoke(tables, world, node, done)?;
+                return Ok(step);
+            };
+            match at_once(world, first) {
+                None => {
+                    let step = self.go(node, Wait::Argument(kinds, behind, done), first)?;
+                    return Ok(step);
+                }
+                Some(Reply::Stopped(why)) => return Ok(Step::Stopped(why)),
+                Some(Reply::Value(value)) => {
+                    match done.push(parameter(kinds, value)) {
+                        Err(_) => return Err(NoMemory),
+                        Ok(()) => {}
+                    }
+                    kinds = behind_first(kinds);
+                    others = behind;
+                }
             }
         }
     }
@@ -75,20 +105,8 @@ impl<'p> Work<'p> {
             Err(_) => return Err(NoMemory),
             Ok(()) => {}
         }
-        match others.split_first() {
-            None => {
-                let step = self.invoke(tables, world, node, done)?;
-                Ok(step)
-            }
-            Some((first, others)) => {
-                let step = self.go(
-                    node,
-                    Wait::Argument(behind_first(kinds), others, done),
-                    first,
-                )?;
-                Ok(step)
-            }
-        }
+        let step = self.arguments(tables, world, node, behind_first(kinds), others, done)?;
+        Ok(step)
     }
 
     // A function with its arguments: one with a body is called, one that every program has gives its value.

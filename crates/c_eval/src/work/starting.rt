@@ -136,8 +136,8 @@ impl<'p> Work<'p> {
         ensures turns { OnOk result (world.new.turns ≤ world.old.turns) }
     {
         match &node.form {
-            Expr::Binary(_, a, _) => {
-                let step = self.first(tables, world, node, a)?;
+            Expr::Binary(op, a, b) => {
+                let step = self.binary(world, node, *op, a, b)?;
                 Ok(step)
             }
             Expr::And(a, _) => {

@@ -1,0 +1,25 @@
+use Rattle.std.proofs.Common.{◌≡◌, ◌∙◌, ap}
+use Rattle.c_syntax.specs.View.{node_shape}
+use Rattle.c_meaning.specs.Results.{then_do}
+use Rattle.c_world.specs.World.{state_of}
+use Rattle.c_eval.specs.declared.frame.Wait.TheVariants as wait
+use Rattle.c_eval.proofs.Opened.{second_opens}
+use Rattle.c_eval.proofs.Once.{once_given}
+use Rattle.c_meaning.specs.Expressions.{gives}
+use Rattle.c_eval.specs.declared.frame.Reply.TheVariants as reply
+use Rattle.c_eval.specs.Rest.{replied, value, Val, waiting, left}
+use Rattle.c_eval.proofs.work.Work.binary.Goals as goal
+
+pub returns-in_ok-step-in-None-clause-rest : goal.returns-in_ok-step-in-None-clause-rest
+returns-in_ok-step-in-None-clause-rest c = λ t k h.
+    c.in_ok-step-in-None.ensures.rest t k (state_of c.at_once.new.world h)
+    ∙ ap (λ s. then_do (value t k (node_shape c.args.a.now) s) (λ v s. waiting t k c.args.node.now wait.Operand (left t k c.args.self.now) (Val v) s)) (c.in-None.ensures.is t k h)
+
+pub returns-in_ok-step-in-Some-Value-clause-rest : goal.returns-in_ok-step-in-Some-Value-clause-rest
+returns-in_ok-step-in-Some-Value-clause-rest c = λ t k h.
+    let s = state_of c.at_once.new.world h in
+    let go = left t k c.args.self.now in
+    let i : c.in-Some-Value.field-0 ≡ reply.Value c.in-Some-Value.value = c.in-Some-Value.field-0-is in
+    c.in_ok-step-in-Some-Value.ensures.rest t k h
+    ∙ second_opens t k c.args.node.now s go c.args.op (node_shape c.args.a.now) (node_shape c.args.b.now) c.in-Some-Value.value c.requires
+    ∙ once_given (value t k (node_shape c.args.a.now) (state_of c.args.world.now h)) c.in-Some-Value.value s (λ v s. waiting t k c.args.node.now wait.Operand go (Val v) s) (c.in-Some-Value.ensures.is t k h ∙ ap (λ r. then_do (replied r s) gives) i)
