@@ -15,6 +15,7 @@ use c_world::world::World;
 #[tactic(auto, using(crate::proofs::Steps::lower_up, crate::proofs::Steps::lower_less))]
 impl<'p> Work<'p> {
     // A place or a value that a step came to goes to what waits for it.
+    #[inline(always)]
     pub(super) fn settle(
         &mut self,
         tables: &'p Tables,
@@ -43,6 +44,7 @@ impl<'p> Work<'p> {
     }
 
     // The same of a value.
+    #[inline(always)]
     fn settle_value(
         &mut self,
         tables: &'p Tables,
