@@ -1,11 +1,11 @@
 -- The beginnings of statements.
-use Rattle.std.proofs.Common.{◌≡◌, ℕ, Option, Some, None, refl, sym, ap, ◌∙◌, Box, Vec, Global}
+use Rattle.std.proofs.Common.{◌≡◌, ℕ, Option, Some, None, ap, ◌∙◌, Box, Vec, Global}
 use Rattle.c_syntax.specs.declared.tree.Node.{Node}
 use Rattle.c_syntax.specs.declared.tree.Item.{Item}
 use Rattle.c_syntax.specs.declared.tree.Stmt.{Stmt}
 use Rattle.c_syntax.specs.declared.tree.StmtForm.{StmtForm}
 use Rattle.c_syntax.specs.declared.tree.StmtForm.TheVariants as form
-use Rattle.c_syntax.specs.Shape.{FormShape, switch, CompoundShape}
+use Rattle.c_syntax.specs.Shape.{switch, CompoundShape}
 use Rattle.c_syntax.specs.View.{node_shape, stmt_shape, form_shape, item_list}
 use Rattle.c_syntax.specs.Options.{if_form}
 use Rattle.c_syntax.proofs.Open.{if_open, switch_open}

@@ -5,4 +5,6 @@ pub mod Lists
 pub mod Logged
 pub mod Declared
 pub mod Begun
+pub mod Turns
 pub mod Entered
+pub mod Filled

@@ -1,5 +1,5 @@
 -- The statements of a list.
-use Rattle.std.proofs.Common.{◌≡◌, ℕ, suc, ◌+◌, ◌<◌, arith, Bool, true, false, Option, Some, refl, sym, ap, subst, ◌∙◌, List}
+use Rattle.std.proofs.Common.{◌≡◌, ℕ, suc, ◌+◌, ◌<◌, arith, Bool, true, false, Option, Some, refl, sym, ap, ◌∙◌, List}
 use Rattle.std.specs.Prelude.{if◌then◌else◌}
 use Rattle.c_syntax.specs.Shape.{NodeShape, StmtShape, stmt, FormShape, switch, LabelShape, ItemShapes, no_items, more_items}
 use Rattle.c_store.specs.declared.value.Value.{Value}
@@ -8,7 +8,7 @@ use Rattle.c_items.specs.Stating.{splits}
 use Rattle.c_meaning.specs.declared.end.Flow.{Flow}
 use Rattle.c_meaning.specs.declared.end.Flow.TheVariants.{Next, Break, Continue, Return}
 use Rattle.c_meaning.specs.State.{State}
-use Rattle.c_meaning.specs.Results.{Got, Gives, then_do}
+use Rattle.c_meaning.specs.Results.{Got, then_do}
 use Rattle.c_meaning.specs.Firsts.{quiet}
 use Rattle.c_meaning.specs.Counts.{stmt_variables}
 use Rattle.c_meaning.specs.Knot.{Knot}

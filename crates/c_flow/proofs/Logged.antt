@@ -1,6 +1,5 @@
 -- The probe before a statement logs.
-use Rattle.std.proofs.Common.{◌≡◌, ℕ, List, [], ◌∷◌, Some, map, ap, ◌∙◌}
-use Rattle.atac_base.specs.declared.probes.Event.{Event}
+use Rattle.std.proofs.Common.{◌≡◌, ℕ, List, ◌∷◌, Some, map, ap, ◌∙◌}
 use Rattle.atac_base.specs.declared.probes.Event.TheVariants.{Block}
 use Rattle.c_syntax.specs.declared.text.Text.{Text}
 use Rattle.c_syntax.specs.declared.tree.ProbeMark.{ProbeMark}

@@ -14,7 +14,7 @@ use Rattle.c_meaning.specs.Firsts.{quiet}
 use Rattle.c_meaning.specs.Knot.{Loop, Knot}
 use Rattle.c_meaning.specs.Statements.{after_body, while_loop, do_loop, for_loop, loop_turn, flow}
 use Rattle.c_meaning.specs.Runs.{silent}
-use Rattle.c_meaning.proofs.Steps.{then_then, then_same}
+use Rattle.c_meaning.proofs.Steps.{then_same}
 use Rattle.c_meaning.proofs.Knots.{again_is}
 use Rattle.c_routines.specs.Routines.{source_of}
 use Rattle.c_eval.specs.Rest.{value}
@@ -61,7 +61,7 @@ tested_loop : (p : Program) (l : Loop) (a : StmtShape) (n : ℕ) (e : NodeShape)
 tested_loop p l a n e s go h =
     on_truth (value (T p) (knot_of p) e s) (λ x s. if x then then_do (flow (T p) (knot_of p) true a (quiet n) s) (behind_body (T p) (knot_of p) (Some l)) else Gives Next s) go
     ∙ again_turn p l (λ s. then_do (then_do (needed (value (T p) (knot_of p) e s)) (λ v s. Gives (is_true v) s)) (λ x s. if x then then_do (flow (T p) (knot_of p) true a (quiet n) s) (behind_body (T p) (knot_of p) (Some l)) else Gives Next s)) s go
-        (h ∙ turned (T p) (knot_of p) (then_do (needed (value (T p) (knot_of p) e s)) (λ v s. Gives (is_true v) s)) l a n)
+    (h ∙ turned (T p) (knot_of p) (then_do (needed (value (T p) (knot_of p) e s)) (λ v s. Gives (is_true v) s)) l a n)
 
 abbrev Tested : Program → FormShape → ℕ → State → Leaver → NodeShape → Type 0
 Tested p f n s go e = then_do (value (T p) (knot_of p) e s) (λ v s. then_do (then_do (present v s) (λ v. tested_flow (T p) (knot_of p) f n (is_true v))) go) ≡ then_do (again_flow (T p) (knot_of p) (loop_of (T p) f n) s) go
@@ -88,7 +88,7 @@ again_tested p (return c) n e s go h = cc
 untested_for : (p : Program) (f g h : MaybeNode) (a : StmtShape) (n : ℕ) (s : State) (go : Leaver) → g ≡ no_node → then_do (body_turn (T p) (knot_of p) (for f g h a) n s) go ≡ then_do (again_flow (T p) (knot_of p) (loop_of (T p) (for f g h a) n) s) go
 untested_for p f no_node h a n s go is =
     again_turn p (for_loop (T p) no_node h a (quiet n)) (λ s. body_turn (T p) (knot_of p) (for f no_node h a) n s) s go
-        (then_same (flow (T p) (knot_of p) true a (quiet n) s) _ _ (behind_is (T p) (knot_of p) (for_loop (T p) no_node h a (quiet n))))
+    (then_same (flow (T p) (knot_of p) true a (quiet n) s) _ _ (behind_is (T p) (knot_of p) (for_loop (T p) no_node h a (quiet n))))
 untested_for p f (one_node e) h a n s go is = cc
 
 pub again_untested : (p : Program) (f : FormShape) (n : ℕ) (s : State) (go : Leaver) → Some no_node ≡ test_in f → then_do (body_turn (T p) (knot_of p) f n s) go ≡ then_do (again_flow (T p) (knot_of p) (loop_of (T p) f n) s) go

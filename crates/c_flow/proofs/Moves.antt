@@ -1,6 +1,6 @@
 -- What a step moves.
-use Rattle.std.proofs.Common.{◌≡◌, ℕ, suc, ◌+◌, ◌*◌, ◌<◌, ◌≤◌, List, [], ◌∷◌, length, refl, sym, ap, subst, ◌∙◌, arith}
-use Rattle.c_meaning.specs.State.{State, Call}
+use Rattle.std.proofs.Common.{◌≡◌, ℕ, suc, ◌≤◌, List, [], ◌∷◌, length, sym, subst, arith}
+use Rattle.c_meaning.specs.State.{Call}
 use Rattle.c_world.specs.Names.{IsActive, scopes_in, scope_counts, one_more}
 use Rattle.c_flow.specs.declared.parts.Step.{Step}
 use Rattle.c_flow.specs.declared.parts.Step.TheVariants as step

@@ -1,8 +1,8 @@
--- The expressions of loops, and where the statements of a `switch` are begun.
-use Rattle.std.specs.Prelude.{Option, Some, None}
+-- The expressions of loops, where the statements of a `switch` are begun, and types of variables.
+use Rattle.std.specs.Prelude.{Bool, true, false, Option, Some, None}
 use Rattle.std.specs.Borrow.{Bor}
 use Rattle.c_syntax.specs.declared.tree.Node.{Node}
-use Rattle.c_syntax.specs.Shape.{MaybeNode, no_node, one_node, FormShape, while, do_while, for}
+use Rattle.c_syntax.specs.Shape.{TypeOf, array, MaybeNode, no_node, one_node, FormShape, while, do_while, for}
 use Rattle.c_syntax.specs.View.{node_shape}
 use Rattle.c_meaning.specs.Statements.{Entry, at_case, at_default}
 use Rattle.c_flow.specs.declared.entry.Entry as code
@@ -29,3 +29,8 @@ found_node (Some e) = one_node (node_shape e.now)
 abbrev pub entry_shape : code.Entry → Entry
 entry_shape (entry.Case n) = at_case n
 entry_shape entry.Default = at_default
+
+-- it is an array
+abbrev pub is_array_kind : Option TypeOf → Bool
+is_array_kind (Some (array t n)) = true
+is_array_kind k = false

@@ -1,7 +1,7 @@
 -- What a run has still to do.
-use Rattle.std.specs.Prelude.{◌≡◌, ℕ, suc, ◌+◌, ◌*◌, ◌<◌, List, [], ◌∷◌, Bool, true, false, Option, Some, None, if◌then◌else◌}
+use Rattle.std.specs.Prelude.{◌≡◌, ℕ, ◌+◌, ◌*◌, List, [], ◌∷◌, Bool, true, false, Option, Some, None, if◌then◌else◌}
 use Rattle.atac_base.specs.declared.probes.Event.{Event}
-use Rattle.c_syntax.specs.Shape.{MaybeNode, one_node, StmtShape, FormShape, while, do_while, for, switch, ItemShapes, DeclaratorShapes}
+use Rattle.c_syntax.specs.Shape.{StmtShape, FormShape, while, do_while, for, switch, ItemShapes, DeclaratorShapes}
 use Rattle.c_syntax.specs.View.{node_shape, stmt_shape, form_shape, item_list}
 use Rattle.c_syntax.specs.declared.tree.Named.{Named}
 use Rattle.c_store.specs.declared.value.Value.{Value}
@@ -10,13 +10,12 @@ use Rattle.c_tree.specs.Tables.{TablesShape, tables_shape}
 use Rattle.c_tree.specs.State.{row}
 use Rattle.c_meaning.specs.declared.end.Flow.{Flow}
 use Rattle.c_meaning.specs.declared.end.Flow.TheVariants.{Next, Break, Continue, Return}
-use Rattle.c_meaning.specs.declared.end.Stop.{Stop}
 use Rattle.c_meaning.specs.State.{State}
 use Rattle.c_meaning.specs.Results.{Got, Gives, Stops, then_do, untyped, present}
 use Rattle.c_meaning.specs.Operators.{converted, is_true}
-use Rattle.c_meaning.specs.Firsts.{First, quiet}
+use Rattle.c_meaning.specs.Firsts.{quiet}
 use Rattle.c_meaning.specs.Layout.{variable_kind}
-use Rattle.c_meaning.specs.Counts.{variables_among, stmt_variables}
+use Rattle.c_meaning.specs.Counts.{variables_among}
 use Rattle.c_meaning.specs.Knot.{Loop, Knot}
 use Rattle.c_meaning.specs.Declarations.{declared_names, scalar_written}
 use Rattle.c_meaning.specs.Statements.{here, scope_closed, out_of_switch, after_one, step_flow, while_loop, do_loop, for_loop, chosen_entry, flow, items_flow}
@@ -29,7 +28,7 @@ use Rattle.c_world.specs.declared.world.World.{World}
 use Rattle.c_eval.specs.Rest.{value, Val, all_do, answer, rest, weights, size}
 use Rattle.c_eval.specs.declared.frame.Frame.{Frame}
 use Rattle.c_eval.specs.declared.work.Work.{Work}
-use Rattle.c_plan.specs.Parts.{items_left, names_ahead, first_in, other_in, items_in}
+use Rattle.c_plan.specs.Parts.{items_left, names_ahead, first_in, other_in}
 use Rattle.c_flow.specs.declared.parts.Purpose.{Purpose}
 use Rattle.c_flow.specs.declared.parts.Purpose.TheVariants as purpose
 use Rattle.c_flow.specs.declared.parts.Use.{Use}

@@ -2,6 +2,7 @@
 #![tactic(auto)]
 
 mod entry;
+mod initial;
 pub mod machine;
 mod marks;
 pub mod parts;

@@ -9,8 +9,8 @@ mod returning;
 mod stepping;
 
 use crate::parts::{Active, Use, Waiting};
-use c_meaning::end::Stop;
 use c_eval::work::Work;
+use c_meaning::end::Stop;
 
 /// A call of a function, as far as it has come, with what waits for statements to leave, the last one on top.
 #[derive(Drop)]

@@ -145,11 +145,7 @@ impl<'p> Machine<'p> {
 
     // A `for` (C89, 3.6.5.3): its first part, and then the loop.
     #[inline(always)]
-    fn begin_for(
-        &mut self,
-        first: &'p Option<Node>,
-        placed: Placed<'p>,
-    ) -> Result<Step, NoMemory>
+    fn begin_for(&mut self, first: &'p Option<Node>, placed: Placed<'p>) -> Result<Step, NoMemory>
         ensures left { IfOk result (λ a. Leaves a self.new self.old (λ t k s. then_do (form_flow t k (simply (maybe_node first.now)) (quiet 0) s) (λ f. again_flow t k (loop_of t (form_shape placed.entry.stmt.now.form) placed.entry.before)))) }
         ensures scopes { IfOk result (λ a. open_scopes self.new.waiting.items ≡ open_scopes self.old.waiting.items) }
         ensures size { IfOk result (λ a. OnMore a (machine_size self.new ≤ 1 + all_weights self.old.waiting.items)) }

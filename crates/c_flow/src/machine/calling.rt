@@ -14,8 +14,8 @@ ghost use Rattle.c_world.specs.World.{state_of, Same};
 ghost use Rattle.c_eval.specs.Rest.{weights};
 ghost use Rattle.c_flow.specs.Todo.{entered_flow, resumed, behind, knot_of, begun_left, OnRunning, left_after, LeavesIn, Tied, OnMore, IsOn, open_scopes, all_weights, machine_size};
 
-use super::{Begun, Machine};
 use super::leaving::untyped;
+use super::{Begun, Machine};
 use crate::marks::log_marks;
 use crate::parts::{Active, Step, Use, Waiting};
 use atac_base::place::NoMemory;

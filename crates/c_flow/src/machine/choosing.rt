@@ -60,11 +60,7 @@ impl<'p> Machine<'p> {
     }
 
     // The statements of a list from an entry on.
-    fn list_from(
-        &mut self,
-        mut entry: Entry,
-        mut sequence: Sequence<'p>,
-    ) -> Result<Step, NoMemory>
+    fn list_from(&mut self, mut entry: Entry, mut sequence: Sequence<'p>) -> Result<Step, NoMemory>
         ensures left { IfOk result (λ a. Leaves a self.new self.old (λ t k. items_flow t k (entry_shape entry) false (items_left sequence.entry) (quiet sequence.entry.before))) }
         ensures scopes { IfOk result (λ a. open_scopes self.new.waiting.items ≡ open_scopes self.old.waiting.items) }
         ensures size { IfOk result (λ a. OnMore a (machine_size self.new ≤ 1 + all_weights self.old.waiting.items)) }

@@ -1,22 +1,15 @@
-ghost use Rattle.std.specs.Prelude.{◌≡◌, ◌+◌, ◌*◌, ◌≤◌, List, IfOk, OnOk};
-ghost use Rattle.atac_base.specs.declared.probes.Event.{Event};
-ghost use Rattle.c_syntax.specs.View.{declarator_shape, item_list};
-ghost use Rattle.c_tree.specs.Tables.{tables_shape};
-ghost use Rattle.c_meaning.specs.Firsts.{quiet};
-ghost use Rattle.c_meaning.specs.Counts.{variables_of};
-ghost use Rattle.c_meaning.specs.Declarations.{declared_name};
-ghost use Rattle.c_meaning.specs.Knot.{Knot};
-ghost use Rattle.c_world.specs.Names.{scope_counts};
-ghost use Rattle.c_world.specs.World.{state_of, tables_of, Same};
+ghost use Rattle.std.specs.Prelude.{◌≡◌, ◌+◌, ◌*◌, ◌≤◌, IfOk, OnOk};
+ghost use Rattle.c_syntax.specs.View.{item_list};
+ghost use Rattle.c_world.specs.World.{Same};
 ghost use Rattle.c_plan.specs.Parts.{names_ahead};
-ghost use Rattle.c_flow.specs.Todo.{block_flow, declared_as, LeavesIn, Tied, OnMore, IsOn, all_weights, machine_size};
+ghost use Rattle.c_flow.specs.Todo.{block_flow, LeavesIn, Tied, OnMore, IsOn, all_weights, machine_size};
 
 use super::Machine;
+use crate::initial::declare_one;
 use crate::parts::{Declared, Step, Waiting};
 use atac_base::place::NoMemory;
 use c_plan::block::{Ahead, Block};
 use c_plan::plan::Plan;
-use c_syntax::tree::Declarator;
 use c_world::world::World;
 
 impl<'p> Machine<'p> {
@@ -31,7 +24,6 @@ impl<'p> Machine<'p> {
         requires tied { Tied self.old world.old }
         ensures left { IfOk result (λ a. LeavesIn plan.now.program.now a self.new world.new self.old world.old (λ t k. block_flow t k (names_ahead block.entry) (item_list block.entry.items.now.items) block.entry.before)) }
         ensures goes { IfOk result IsOn }
-        ensures program { world.new.program.now ≡ world.old.program.now }
         ensures tied { IfOk result (λ a. OnMore a (Tied self.new world.new)) }
         ensures size { IfOk result (λ a. OnMore a (12 * world.new.turns + machine_size self.new ≤ 12 * world.old.turns + 1 + all_weights self.old.waiting.items)) }
         ensures same { OnOk result (Same world.old world.new) }
@@ -43,7 +35,7 @@ impl<'p> Machine<'p> {
                     return Ok(step);
                 }
                 Ahead::Name(declarator, rest) => {
-                    match declare_one(world, declarator, block.before)? {
+                    match declare_one(world, declarator, rest.before)? {
                         Declared::Done => block = rest,
                         Declared::Stopped(why) => return Ok(Step::Stopped(why)),
                         Declared::Value(node, used) => {
@@ -55,19 +47,4 @@ impl<'p> Machine<'p> {
             }
         }
     }
-}
-
-// One declarator behind so many variables.
-fn declare_one<'p>(
-    world: &mut World<'p>,
-    declarator: &'p Declarator,
-    before: u32,
-) -> Result<Declared<'p>, NoMemory>
-    ensures done { IfOk result (λ r. (k : Knot) (h : List Event) → declared_as (tables_of world.old) k r (state_of world.new h) ≡ declared_name (tables_of world.old) k (declarator_shape declarator.now) (quiet before) (state_of world.old h)) }
-    ensures program { world.new.program.now ≡ world.old.program.now }
-    ensures counts { OnOk result (scope_counts world.new.names.calls ≡ scope_counts world.old.names.calls) }
-    ensures turns { OnOk result (world.new.turns ≤ world.old.turns) }
-    ensures same { OnOk result (Same world.old world.new) }
-{
-    Err(NoMemory)
 }

@@ -30,11 +30,7 @@ impl<'p> Machine<'p> {
 
     // A statement of a list was left.
     #[inline(always)]
-    pub(super) fn leave_one(
-        &mut self,
-        sequence: Sequence<'p>,
-        flow: Flow,
-    ) -> Result<Step, NoMemory>
+    pub(super) fn leave_one(&mut self, sequence: Sequence<'p>, flow: Flow) -> Result<Step, NoMemory>
         ensures left { IfOk result (λ a. Leaves a self.new self.old (λ t k. after_one (items_flow t k here false (items_left sequence.entry) (quiet sequence.entry.before)) flow)) }
         ensures scopes { IfOk result (λ a. open_scopes self.new.waiting.items ≡ open_scopes self.old.waiting.items) }
         ensures size { IfOk result (λ a. OnMore a (machine_size self.new ≤ 1 + all_weights self.old.waiting.items)) }

@@ -55,12 +55,7 @@ impl<'p> Machine<'p> {
     }
 
     // The function that the run begins with is left.
-    pub(super) fn finish(
-        &mut self,
-        plan: &'p Plan<'p>,
-        world: &mut World<'p>,
-        flow: Flow,
-    ) -> Step
+    pub(super) fn finish(&mut self, plan: &'p Plan<'p>, world: &mut World<'p>, flow: Flow) -> Step
         requires program { world.old.program.now ≡ plan.now.program.now }
         requires tied { scope_counts world.old.names.calls ≡ 1 ∷ [] }
         ensures left { (h : List Event) → left_after (tables_shape plan.now.program.now.tables) (knot_of plan.now.program.now) result self.new (state_of world.new h) ≡ returned (result_in (row (tables_shape plan.now.program.now.tables).functions self.old.function)) flow (state_of world.old h) }

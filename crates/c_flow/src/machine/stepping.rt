@@ -4,33 +4,28 @@ ghost use Rattle.c_syntax.specs.View.{form_shape};
 ghost use Rattle.c_tree.specs.Tables.{tables_shape};
 ghost use Rattle.c_meaning.specs.Results.{then_do};
 ghost use Rattle.c_world.specs.Names.{scope_counts};
-ghost use Rattle.c_world.specs.World.{state_of, tables_of, answered, Same};
+ghost use Rattle.c_world.specs.World.{state_of, Same};
 ghost use Rattle.c_eval.specs.Rest.{rest_after, size_after, Lower};
-ghost use Rattle.c_flow.specs.Kept.{Kept};
-ghost use Rattle.c_flow.specs.Todo.{init_flow, scopes_with, stmt_flow, use_flow, uses, waits, behind, knot_of, left_in, left_after, Leaves, Tied, OnMore, open_scopes, weight, all_weights, machine_size};
+ghost use Rattle.c_flow.specs.Todo.{scopes_with, stmt_flow, use_flow, uses, waits, behind, knot_of, left_in, left_after, Leaves, Tied, OnMore, open_scopes, weight, all_weights, machine_size};
 
 use super::Machine;
 use super::leaving::untyped;
+use crate::initial::write_initial;
 use crate::parts::{Active, Purpose, Step, Use, Waiting};
 use atac_base::place::NoMemory;
 use c_compute::operators::is_true;
 use c_eval::frame::Step as Advance;
-use c_meaning::end::{Flow, Stop};
+use c_meaning::end::Flow;
 use c_plan::placed::Placed;
 use c_plan::plan::Plan;
 use c_store::value::Value;
-use c_syntax::tree::Named;
 use c_world::world::World;
 
 impl<'p> Machine<'p> {
     /// One step: a statement with its probes and its turn, a way in which one was left for what waits for it, or a step of an
     /// expression with what takes its value. Turns, Depth, Room, an exit or a fault comes exactly where the definition stops
     /// there; an `Err` is want of memory alone.
-    pub fn step(
-        &mut self,
-        plan: &'p Plan<'p>,
-        world: &mut World<'p>,
-    ) -> Result<Step, NoMemory>
+    pub fn step(&mut self, plan: &'p Plan<'p>, world: &mut World<'p>) -> Result<Step, NoMemory>
         requires program { world.old.program.now ≡ plan.now.program.now }
         requires tied { Tied self.old world.old }
         ensures left { IfOk result (λ a. (h : List Event) → left_after (tables_shape plan.now.program.now.tables) (knot_of plan.now.program.now) a self.new (state_of world.new h) ≡ left_in (tables_shape plan.now.program.now.tables) (knot_of plan.now.program.now) self.old (state_of world.old h)) }
@@ -220,19 +215,4 @@ impl<'p> Machine<'p> {
             }
         }
     }
-}
-
-// The value of an initialiser (C89, 3.5.7) is written into the variable's instance.
-fn write_initial(
-    world: &mut World<'_>,
-    instance: u64,
-    variable: u32,
-    name: &Option<Named>,
-    value: Value,
-) -> Result<Option<Stop>, NoMemory>
-    ensures done { IfOk result (λ r. (h : List Event) → init_flow (tables_of world.old) instance variable name.now value (state_of world.old h) ≡ answered r (state_of world.new h)) }
-    ensures kept { OnOk result (Kept world.old world.new) }
-    ensures same { OnOk result (Same world.old world.new) }
-{
-    Err(NoMemory)
 }

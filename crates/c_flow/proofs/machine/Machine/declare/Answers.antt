@@ -12,6 +12,7 @@ use Rattle.c_plan.specs.Parts.{names_ahead}
 use Rattle.c_flow.specs.declared.parts.Declared.TheVariants as declared
 use Rattle.c_flow.specs.Todo.{knot_of, uses, block_flow, declared_as, behind}
 use Rattle.c_flow.proofs.Declared.{block_wants}
+use Rattle.c_flow.proofs.Moves.{is_active}
 use Rattle.c_flow.proofs.machine.Machine.declare.Goals as goal
 
 pub returns-in-Value-clause-left : goal.returns-in-Value-clause-left
@@ -30,7 +31,10 @@ returns-in-Value-clause-left c = λ h.
     ∙ ap (λ go. then_do (value t k e s') (uses t k u go)) (c.in_ok-wait-in-Value.ensures.behind t k)
     ∙ ap (λ (v : Vec Item Global). then_do (value t k e s') (uses t k u (λ f s. then_do (block_flow t k (names_ahead i.rest) (item_list v.items) i.rest.before s) go))) i.ensures.1
     ∙ block_wants t k (names_ahead b) d (names_ahead i.rest) (item_list b.items.now.items) b.before i.rest.before s s' e u go i.ensures.0 i.ensures.2
-        (subst (λ (p : Program). declared_as (tables_shape p.tables) k (declared.Value c.in-Value.node u) s' ≡ declared_name (tables_shape p.tables) k d (quiet b.before) s) (c.loop-sequence.invariant.program ∙ c.requires.program)
-            (subst (λ r. declared_as (tables_of c.loop-sequence.world) k r s' ≡ declared_name (tables_of c.loop-sequence.world) k d (quiet b.before) s) c.in-Value.is (c.in_ok-declare_one-in-Name.ensures.done k h)))
+    (subst (λ (p : Program). declared_as (tables_shape p.tables) k (declared.Value c.in-Value.node u) s' ≡ declared_name (tables_shape p.tables) k d (quiet b.before) s) (c.loop-sequence.invariant.program ∙ c.requires.program)
+    (subst (λ r. declared_as (tables_of c.loop-sequence.world) k r s' ≡ declared_name (tables_of c.loop-sequence.world) k d (quiet b.before) s) c.in-Value.is (c.in_ok-declare_one-in-Name.ensures.done k h b.before i.ensures.2)))
     ∙ ap (λ r. then_do r go) (c.loop-sequence.invariant.left h)
     ∙ ap (λ m. then_do (block_flow t k (names_ahead c.args.block) (item_list c.args.block.items.now.items) c.args.block.before (state_of c.args.world.now h)) (behind t k m)) c.loop-sequence.invariant.same
+
+pub declare_one-requires : goal.declare_one-requires
+declare_one-requires c = is_active c.loop-sequence.world.names.calls c.args.self.now.waiting.items (c.loop-sequence.invariant.counts ∙ c.requires.tied)

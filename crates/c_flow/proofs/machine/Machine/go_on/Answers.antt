@@ -1,4 +1,4 @@
-use Rattle.std.proofs.Common.{◌≡◌, [], ap, subst, ◌∙◌, arith}
+use Rattle.std.proofs.Common.{◌≡◌, [], ap, subst, arith}
 use Rattle.c_meaning.specs.State.{State}
 use Rattle.c_world.specs.Names.{scope_counts}
 use Rattle.c_flow.specs.Todo.{scopes_with, open_scopes, weight}

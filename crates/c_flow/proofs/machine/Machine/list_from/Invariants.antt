@@ -1,4 +1,4 @@
-use Rattle.std.proofs.Common.{◌≡◌, ℕ, false}
+use Rattle.std.proofs.Common.{◌≡◌, false}
 use Rattle.c_tree.specs.Tables.{TablesShape}
 use Rattle.c_meaning.specs.State.{State}
 use Rattle.c_meaning.specs.Firsts.{quiet}

@@ -1,4 +1,4 @@
-use Rattle.std.proofs.Common.{ap, sym, ◌∙◌}
+use Rattle.std.proofs.Common.{◌∙◌}
 use Rattle.c_syntax.specs.View.{form_shape, node_shape}
 use Rattle.c_tree.specs.Tables.{tables_shape}
 use Rattle.c_flow.specs.Todo.{knot_of, behind}

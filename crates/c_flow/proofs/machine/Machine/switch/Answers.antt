@@ -20,4 +20,4 @@ returns-in_ok-step-in-Some-clause-left c = λ p s.
     c.in_ok-step-in-Some.ensures.left p s
     ∙ ap (then_do (items_flow t k (entry_shape c.in_ok-entry.entry) false (items_left q) (quiet q.before) s)) (c.in_ok-wait-in-Some.ensures.behind t k)
     ∙ switch_opens t k (form_shape c.args.placed.stmt.now.form) (node_shape i.chosen) (item_list i.items.items) (items_left q) (entry_shape c.in_ok-entry.entry) c.args.placed.before q.before c.args.value s (behind t k c.args.self.now)
-        (switch_shape c.args.placed.stmt.now.form i.chosen i.items i.is) c.in-Some.ensures.0 c.in-Some.ensures.1 (c.in_ok-entry.ensures ∙ ap (λ l. chosen_entry (node_shape i.chosen) (item_list l) c.args.value) c.deref.ensures.value)
+    (switch_shape c.args.placed.stmt.now.form i.chosen i.items i.is) c.in-Some.ensures.0 c.in-Some.ensures.1 (c.in_ok-entry.ensures ∙ ap (λ l. chosen_entry (node_shape i.chosen) (item_list l) c.args.value) c.deref.ensures.value)

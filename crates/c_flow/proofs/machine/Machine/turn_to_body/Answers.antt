@@ -25,7 +25,7 @@ returns-then-turn-clause-left c = λ h.
     let n = r.before + signature_variables (decl_form_shape r.params.now) in
     c.in_ok-step.ensures.left h
     ∙ ap (λ r. then_do r (behind t k c.args.self.now)) (block_is t k c.body.result (compound_shape r.body.now) n (state_of c.turn.new.self h) c.body.ensures
-        ∙ sym (ap (λ s. turn s (compound_flow t k (compound_shape r.body.now) (quiet n))) (c.turn.ensures.taken c.if-turn.true h)))
+    ∙ sym (ap (λ s. turn s (compound_flow t k (compound_shape r.body.now) (quiet n))) (c.turn.ensures.taken c.if-turn.true h)))
 
 pub returns-then-turn-clause-falls : goal.returns-then-turn-clause-falls
 returns-then-turn-clause-falls c = more_if c.in_ok-step.step _ _ c.in_ok-step.ensures.size (λ h. omega (arith, h, ap (λ (s : State). s.turns) (c.turn.ensures.taken c.if-turn.true [])))
