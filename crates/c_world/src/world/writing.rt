@@ -38,8 +38,9 @@ impl<'p> World<'p> {
         self.store.write(at, value)
     }
 
-    // Writes the cell of a scalar's instance, and logs for the probe round its declared name.
-    pub(super) fn write_scalar(
+    /// Writes the cell of a scalar's instance (C89, 3.5.7), and logs for the probe round its declared name. NoResult comes where
+    /// the probe has no number, else the fault of the cell.
+    pub fn write_scalar(
         &mut self,
         name: &Option<Named>,
         instance: u64,
