@@ -1,0 +1,4 @@
+pub mod Marks
+pub mod ProbedExpressions
+pub mod ProbedStatements
+pub mod Instrumented
