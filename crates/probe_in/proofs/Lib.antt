@@ -1,1 +1,4 @@
+pub mod ReadNumbers
+mod Told
+mod Few
 mod Worked

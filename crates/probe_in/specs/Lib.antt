@@ -2,3 +2,4 @@ pub mod Marks
 pub mod ProbedExpressions
 pub mod ProbedStatements
 pub mod Instrumented
+pub mod Plain
