@@ -1,4 +1,5 @@
 pub mod ReadNumbers
 mod Told
 mod Few
+mod Rounds
 mod Worked
