@@ -8,7 +8,8 @@ use Rattle.c_items.specs.declared.around.Taken.{Taken}
 use Rattle.c_items.specs.declared.around.Taken.TheVariants.{Read, Written, Changed}
 use Rattle.c_items.specs.Items.{Direct, Item, Outcomes, block, decision, def, used}
 use Rattle.c_items.specs.Places.{is_place, has_scalar, direct_form}
-use Rattle.c_items.specs.Walked.{Walked, with_item, with_block, with_decision, next_decision, pos_of, operand_taken, left_taken, with_def, with_use, with_sites, with_site}
+use Rattle.c_items.specs.Tests.{is_logical_form, outcomes_of_form}
+use Rattle.c_items.specs.Walked.{Walked, with_item, with_test, with_block, with_decision, next_decision, pos_of, operand_taken, left_taken, with_def, with_use, with_sites, with_site}
 use Rattle.c_items.specs.Walking.{walk_node, walk_form, walk_test, walk_arm, walk_nodes}
 use Rattle.c_meaning.specs.Firsts.{block_count, def_count, use_count}
 use Rattle.c_meaning.specs.Counts.{IsBefore}
@@ -59,6 +60,10 @@ few_blocks p w few = omega (arith, blocks_then w.items (block p), few.blocks)
 
 pub few_decisions : (p : Pos) (o : Outcomes) (w : Walked) → HasFewItems (with_decision p o w) → next_decision w ≤ 16383
 few_decisions p o w few = few.decisions
+
+-- a test position that is a decision
+pub few_tests : (p : Pos) (f : ExprShape) (w : Walked) → is_logical_form f ≡ false → HasFewItems (with_test p f w) → next_decision w ≤ 16383
+few_tests p f w other few = (subst (λ b. HasFewItems (if b then w else with_decision p (outcomes_of_form f) w)) other few).decisions
 
 pub few_defs : (p : Pos) (f : ℕ) (d : Option Direct) (w : Walked) → HasFewItems (with_item (def p f d) w) → def_count w.items < 16383
 few_defs p f d w few = omega (arith, defs_then w.items (def p f d), few.defs)
