@@ -4,4 +4,6 @@ mod Few
 mod Rounds
 mod Loops
 mod SimNodes
+mod SameConstants
+mod SameInitials
 mod Worked
