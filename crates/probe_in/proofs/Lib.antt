@@ -6,4 +6,5 @@ mod Loops
 mod SimNodes
 mod SameConstants
 mod SameInitials
+mod SelectConstants
 mod Worked
