@@ -6,5 +6,6 @@ mod Loops
 mod SimNodes
 mod SameConstants
 mod SameInitials
+mod SameCounts
 mod SelectConstants
 mod Worked
