@@ -8,4 +8,5 @@ mod SameConstants
 mod SameInitials
 mod SameCounts
 mod SelectConstants
+mod SimDecls
 mod Worked
