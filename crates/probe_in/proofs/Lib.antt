@@ -9,4 +9,5 @@ mod SameInitials
 mod SameCounts
 mod SelectConstants
 mod SimDecls
+mod SimStatements
 mod Worked
