@@ -10,4 +10,5 @@ mod SameCounts
 mod SelectConstants
 mod SimDecls
 mod SimStatements
+mod SimCalls
 mod Worked

@@ -112,7 +112,7 @@ mutual
   body_same t c continue w = refl
   body_same t c (return e) w = refl
 
-  compound_same : (t : TablesShape) (c : Around) (d : CompoundShape) (w : Walked) → compound_variables (probed_compound t c d w) ≡ compound_variables d
+  pub compound_same : (t : TablesShape) (c : Around) (d : CompoundShape) (w : Walked) → compound_variables (probed_compound t c d w) ≡ compound_variables d
   compound_same t c (braces p ds items) w = ap₂ (λ m n. m + n) (decls_same t c ds w) (items_same t c false items (walk_decls t c ds w))
 
   items_same : (t : TablesShape) (c : Around) (after : Bool) (items : ItemShapes) (w : Walked) → items_variables (probed_items t c after items w) ≡ items_variables items

@@ -3,3 +3,4 @@ pub mod ProbedExpressions
 pub mod ProbedStatements
 pub mod Instrumented
 pub mod Plain
+pub mod Simulation
