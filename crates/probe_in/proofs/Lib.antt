@@ -11,4 +11,5 @@ mod SelectConstants
 mod SimDecls
 mod SimStatements
 mod SimCalls
+pub mod Simulation
 mod Worked
