@@ -1,8 +1,8 @@
 -- Where few items are counted, few are counted before, and one that is counted there has a number that a probe may have.
-use Rattle.std.proofs.Common.{◌≡◌, ℕ, suc, ◌+◌, ◌≤◌, ◌<◌, ◌++◌, List, [], ◌∷◌, Option, Bool, true, false, sym, subst, true≢false, arith}
+use Rattle.std.proofs.Common.{◌≡◌, ℕ, ◌+◌, ◌≤◌, ◌<◌, ◌++◌, List, [], ◌∷◌, Option, Bool, true, false, sym, subst, true≢false, arith}
 use Rattle.std.specs.Prelude.{if◌then◌else◌}
 use Rattle.atac_base.specs.declared.place.Pos.{Pos}
-use Rattle.c_syntax.specs.Shape.{NoteShape, unary, before, size_of, plain, and, or, assign, comma, NodeShape, node, ExprShape, leaf, paren, call, prefix, size_of_type, cast, suffix, two, choose, probe, index, field, behind, NodeShapes, no_nodes, more_nodes}
+use Rattle.c_syntax.specs.Shape.{NoteShape, unary, before, size_of, plain, and, or, assign, comma, NodeShape, ExprShape, leaf, paren, call, prefix, size_of_type, cast, suffix, two, choose, probe, index, field, behind, NodeShapes, no_nodes, more_nodes}
 use Rattle.c_items.specs.declared.around.Around.{Around}
 use Rattle.c_items.specs.declared.around.Taken.{Taken}
 use Rattle.c_items.specs.declared.around.Taken.TheVariants.{Read, Written, Changed}

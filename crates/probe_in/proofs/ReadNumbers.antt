@@ -1,14 +1,13 @@
 -- Numbers that are written in decimal are read back: those of probes, and the constants of a select.
-use Rattle.std.proofs.Common.{◌≡◌, ℕ, suc, ◌+◌, ◌*◌, ◌-◌, ◌≤◌, ◌<◌, ◌^◌, List, [], ◌∷◌, length, take, drop, get_or, Bool, true, false, Option, Some, None, refl, ap, ap₂, sym, ◌∙◌, arith}
-use Rattle.std.specs.Prelude.{nat_le, nat_lt, nat_eq, ◌&&◌, not, cond, if◌then◌else◌}
+use Rattle.std.proofs.Common.{◌≡◌, ℕ, ◌+◌, ◌*◌, ◌-◌, ◌≤◌, ◌<◌, ◌^◌, List, [], ◌∷◌, length, take, drop, get_or, true, false, Option, Some, None, refl, ap, ap₂, ◌∙◌, arith}
+use Rattle.std.specs.Prelude.{nat_lt, nat_eq, ◌&&◌, cond, if◌then◌else◌}
 use Rattle.std.specs.Fmt.{decimal}
-use Rattle.std.specs.Str.Parse.{AllDigits, digits_value_after, digits_value}
+use Rattle.std.specs.Str.Parse.{AllDigits, digits_value_after}
 use Rattle.std.specs.Char.{digit_value}
 use Rattle.std.specs.Int.{IsInRange}
 use Rattle.std.proofs.lemmas.Fmt.{decimal_is_IsNumeral, decimal_digit, first_decimal}
-use Rattle.std.proofs.lemmas.Str.Parse.{digit_from_value}
 use Rattle.c_cut.specs.declared.bytes.ByteSet.TheVariants.{Digit}
-use Rattle.c_cut.specs.Bytes.{between, digit_of, run}
+use Rattle.c_cut.specs.Bytes.{digit_of, run}
 use Rattle.c_cut.specs.Numbers.{value, value_from, is_suffix, begins_with_x}
 use Rattle.c_kinds.specs.declared.kinds.Radix.TheVariants.{Octal, Decimal, Hexadecimal}
 use Rattle.c_values.specs.declared.numbers.Number.{Number}
@@ -61,6 +60,7 @@ number_of_digits ds d some small =
     take_whole : (xs : List ℕ) → take (length xs) xs ≡ xs
     take_whole [] = refl
     take_whole (x ∷ xs) = ap (λ z. x ∷ z) (take_whole xs)
+
     drop_all : (xs : List ℕ) → drop (length xs) xs ≡ []
     drop_all [] = refl
     drop_all (x ∷ xs) = drop_all xs

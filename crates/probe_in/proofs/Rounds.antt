@@ -1,34 +1,32 @@
 -- Probes round a node: its type, its place, what it gives, and the probes of its sites.
-use Rattle.std.proofs.Common.{◌≡◌, ℕ, suc, ◌≤◌, ◌<◌, ◌++◌, List, [], ◌∷◌, Option, Some, None, Bool, true, false, ◌∙◌, refl, sym, ap, subst, true≢false, arith}
+use Rattle.std.proofs.Common.{◌≡◌, ℕ, ◌<◌, ◌++◌, [], ◌∷◌, Bool, true, false, ◌∙◌, refl, sym, ap, true≢false}
 use Rattle.std.specs.Prelude.{if◌then◌else◌}
 use Rattle.std.specs.Fmt.{decimal}
 use Rattle.atac_base.specs.declared.place.Pos.{Pos}
-use Rattle.atac_base.specs.declared.place.IntKind.{IntKind}
 use Rattle.c_syntax.specs.declared.text.Text.{Text}
-use Rattle.c_syntax.specs.Shape.{TypeOf, int, pointer, array, structure, nothing, NoteShape, bare, typed, known, number, char, str, name, unary, before, size_of, plain, and, or, assign, comma, NodeShape, node, ExprShape, leaf, paren, call, prefix, size_of_type, cast, suffix, two, choose, probe, index, field, behind, simple, select, block, test, used, def, NodeShapes}
+use Rattle.c_syntax.specs.Shape.{NoteShape, bare, typed, known, unary, before, size_of, plain, and, or, assign, comma, NodeShape, node, ExprShape, leaf, paren, call, prefix, size_of_type, cast, suffix, two, choose, probe, index, field, behind, simple, select, block, test, used, def, NodeShapes}
 use Rattle.c_kinds.specs.Kinds.{decay}
-use Rattle.c_store.specs.declared.value.Value.{Value}
 use Rattle.c_store.specs.declared.value.Pointer.{Pointer}
 use Rattle.c_tree.specs.Tables.{TablesShape}
 use Rattle.c_items.specs.declared.around.Around.{Around}
 use Rattle.c_items.specs.declared.around.Taken.{Taken}
-use Rattle.c_items.specs.declared.around.Taken.TheVariants.{Read, Written, Changed, Addressed}
-use Rattle.c_items.specs.Places.{is_place, has_scalar, has_array}
+use Rattle.c_items.specs.declared.around.Taken.TheVariants.{Read, Written, Changed}
+use Rattle.c_items.specs.Places.{is_place, has_scalar}
 use Rattle.c_items.specs.Tests.{choosing}
 use Rattle.c_items.specs.Walked.{Walked, is_read, is_written, with_site}
-use Rattle.c_items.specs.Walking.{walk_node, walk_form}
+use Rattle.c_items.specs.Walking.{walk_node}
 use Rattle.c_meaning.specs.State.{State}
-use Rattle.c_meaning.specs.Results.{Got, Gives, then_do, needed}
+use Rattle.c_meaning.specs.Results.{Got, then_do, needed}
 use Rattle.c_meaning.specs.Operators.{is_true}
 use Rattle.c_meaning.specs.Firsts.{First, quiet, heard, def_count, use_count, outcome}
 use Rattle.c_meaning.specs.Places.{marks, marks_in, logs, fetched}
 use Rattle.c_meaning.specs.Constants.{kind_noted, type_at, select_constants, chosen_among}
 use Rattle.c_meaning.specs.Knot.{Knot}
 use Rattle.c_meaning.specs.Expressions.{Meaning, as_place, gives, operand, meaning, form_meaning, log_block, log_test}
-use Rattle.probe_in.specs.Marks.{value_note, place_note, next_def, next_use, round_value, round_place, in_block, in_test, in_use, in_def}
+use Rattle.probe_in.specs.Marks.{place_note, next_def, next_use, round_value, in_use, in_def}
 use Rattle.probe_in.specs.ProbedExpressions.{in_sites, sited, probed_node, probed_form}
-use Rattle.probe_in.specs.Plain.{Suits, IsPlain, HasFewItems}
-use Rattle.probe_in.proofs.Few.{few_before, form_before, few_read, few_written, few_changed, few_changed_use}
+use Rattle.probe_in.specs.Plain.{IsPlain, HasFewItems}
+use Rattle.probe_in.proofs.Few.{few_before, form_before, few_written, few_changed, few_changed_use}
 use Rattle.probe_in.proofs.Told.{as_log, with_log, sim_then, fetched_use, fetched_other}
 
 -- ---- types

@@ -1,35 +1,28 @@
 -- What is known of an expression before a run is known of it with its probes.
-use Rattle.std.proofs.Common.{◌≡◌, ℕ, ℤ, pos, List, [], ◌∷◌, Option, Some, None, Bool, true, false, ◌∙◌, refl, sym, ap, ap₂}
+use Rattle.std.proofs.Common.{◌≡◌, ℤ, pos, Option, Some, Bool, true, false, ◌∙◌, refl, ap, ap₂}
 use Rattle.std.specs.Prelude.{option_map, option_and_then, if◌then◌else◌}
-use Rattle.std.specs.Fmt.{decimal}
 use Rattle.atac_base.specs.declared.place.Pos.{Pos}
 use Rattle.atac_base.specs.declared.place.IntKind.{IntKind}
 use Rattle.atac_base.specs.declared.place.IntKind.TheVariants.{Int as AnInt}
 use Rattle.c_arith.specs.Arith.{wrap}
-use Rattle.c_syntax.specs.declared.text.Text.{Text}
 use Rattle.c_syntax.specs.declared.tree.UnaryOp.TheVariants as front
-use Rattle.c_syntax.specs.Shape.{TypeOf, int, pointer, array, structure, nothing, NoteShape, bare, typed, known, number, char, str, name, unary, before, size_of, plain, and, or, assign, comma, dot, arrow, NodeShape, node, ExprShape, leaf, paren, call, prefix, size_of_type, cast, suffix, two, choose, probe, index, field, behind, simple, block, test, used, def}
+use Rattle.c_syntax.specs.Shape.{NoteShape, bare, typed, known, number, char, str, name, unary, before, size_of, plain, and, or, assign, comma, NodeShape, node, ExprShape, leaf, paren, call, prefix, size_of_type, cast, suffix, two, choose, probe, index, field, behind}
 use Rattle.c_kinds.specs.Kinds.{meet}
 use Rattle.c_values.specs.declared.constants.Constant.{Constant}
 use Rattle.c_values.specs.declared.constants.Constant.TheVariants.{No, Faulty, Known, Variable, Part, Address, Literal}
 use Rattle.c_values.specs.Constants as constants
 use Rattle.c_values.specs.Constants.{kind_of, value, given, with_one, with_two, is_zero, truth_value}
-use Rattle.c_store.specs.declared.value.Value.{Value}
-use Rattle.c_store.specs.declared.value.Value.TheVariants.{At}
-use Rattle.c_store.specs.declared.value.Pointer.{Pointer}
-use Rattle.c_tree.specs.Tables.{TablesShape}
 use Rattle.c_items.specs.declared.around.Around.{Around}
 use Rattle.c_items.specs.declared.around.Taken.{Taken}
-use Rattle.c_items.specs.declared.around.Taken.TheVariants.{Read, Changed, Addressed}
-use Rattle.c_items.specs.Places.{is_place, has_scalar, has_array}
-use Rattle.c_items.specs.Tests.{is_logical_form, noted_constant, cast_to, joined}
-use Rattle.c_items.specs.Walked.{Walked, is_read, is_written, pos_of, operand_taken, left_taken, with_block, with_test, with_site, inside_test}
+use Rattle.c_items.specs.declared.around.Taken.TheVariants.{Read, Addressed}
+use Rattle.c_items.specs.Places.{has_scalar}
+use Rattle.c_items.specs.Tests.{is_logical_form, noted_constant, cast_to}
+use Rattle.c_items.specs.Walked.{Walked, is_read, is_written, pos_of, with_block, with_test, with_site, inside_test}
 use Rattle.c_items.specs.Walking.{walk_node, walk_test, walk_arm}
-use Rattle.c_meaning.specs.State.{Bound}
 use Rattle.c_meaning.specs.Constants.{constant, constant_form}
-use Rattle.probe_in.specs.Marks.{value_note, place_note, round_value, in_block, in_test, in_use, in_def}
-use Rattle.probe_in.specs.ProbedExpressions.{sited, probed_node, probed_form, probed_test, probed_arm}
-use Rattle.probe_in.specs.Plain.{IsPlain, HasPlainParts}
+use Rattle.probe_in.specs.Marks.{value_note, place_note, in_block, in_test, in_use, in_def}
+use Rattle.probe_in.specs.ProbedExpressions.{probed_node, probed_test, probed_arm}
+use Rattle.probe_in.specs.Plain.{IsPlain}
 
 -- ---- constants by what they are asked for
 

@@ -1,15 +1,14 @@
 -- What stays the same with probes: how many variables are declared, what splits a list of statements, and what a switch chooses by.
-use Rattle.std.proofs.Common.{◌≡◌, ℕ, ℤ, ◌+◌, List, [], ◌∷◌, ◌++◌, length, Option, Some, None, Bool, true, false, ◌∙◌, refl, sym, ap, ap₂, subst}
+use Rattle.std.proofs.Common.{◌≡◌, ℤ, ◌+◌, List, ◌++◌, Option, Bool, true, false, ◌∙◌, refl, sym, ap, ap₂}
 use Rattle.std.specs.Prelude.{◌||◌, if◌then◌else◌}
 use Rattle.atac_base.specs.declared.place.Pos.{Pos}
 use Rattle.atac_base.specs.declared.place.IntKind.{IntKind}
 use Rattle.c_syntax.specs.declared.tree.Named.{Named}
 use Rattle.c_syntax.specs.declared.tree.Star.{Star}
-use Rattle.c_syntax.specs.Shape.{TypeOf, int, pointer, array, structure, nothing, NoteShape, bare, typed, known, NodeShape, node, ExprShape, DeclShape, decl, DeclShapes, no_decls, more_decls, DeclaratorShape, declarator, DeclaratorShapes, no_declarators, more_declarators, LengthShapes, arrays, function, MaybeInit, no_init, one_init, StmtShape, stmt, FormShape, compound, simply, when, either, while, do_while, for, switch, break, continue, return, CompoundShape, braces, ItemShapes, no_items, more_items}
+use Rattle.c_syntax.specs.Shape.{int, pointer, array, structure, nothing, NoteShape, bare, typed, known, NodeShape, node, ExprShape, DeclShape, decl, DeclShapes, no_decls, more_decls, DeclaratorShape, declarator, DeclaratorShapes, no_declarators, more_declarators, LengthShapes, arrays, function, MaybeInit, no_init, one_init, StmtShape, stmt, FormShape, compound, simply, when, either, while, do_while, for, switch, break, continue, return, CompoundShape, braces, ItemShapes, no_items, more_items}
 use Rattle.c_tree.specs.Tables.{TablesShape}
 use Rattle.c_items.specs.declared.around.Around.{Around}
 use Rattle.c_items.specs.declared.around.Taken.{Taken}
-use Rattle.c_items.specs.declared.around.Taken.TheVariants.{Read}
 use Rattle.c_items.specs.Places.{is_place, has_scalar}
 use Rattle.c_items.specs.Tests.{choosing}
 use Rattle.c_items.specs.Walked.{Walked, is_read, is_written, with_block, with_block_if, with_site}

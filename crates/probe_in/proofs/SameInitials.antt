@@ -1,21 +1,17 @@
 -- What an initialiser gives before a run, it gives with its probes.
-use Rattle.std.proofs.Common.{◌≡◌, ℕ, List, [], ◌∷◌, Option, Some, None, Bool, true, false, ◌∙◌, refl, sym, ap, ap₂}
+use Rattle.std.proofs.Common.{◌≡◌, ℕ, List, [], ◌∷◌, Option, Bool, true, false, ◌∙◌, refl, ap, ap₂}
 use Rattle.std.specs.Prelude.{option_map, if◌then◌else◌}
 use Rattle.atac_base.specs.declared.place.Pos.{Pos}
 use Rattle.c_syntax.specs.declared.text.Text.{Text}
 use Rattle.c_syntax.specs.declared.tree.UnaryOp.TheVariants as front
 use Rattle.c_syntax.specs.Shape.{TypeOf, int, pointer, array, structure, nothing, NoteShape, bare, typed, known, number, char, str, name, unary, before, size_of, plain, and, or, assign, comma, dot, arrow, NodeShape, node, ExprShape, leaf, paren, call, prefix, size_of_type, cast, suffix, two, choose, probe, index, field, behind}
-use Rattle.c_values.specs.declared.constants.Constant.{Constant}
-use Rattle.c_values.specs.declared.constants.Constant.TheVariants.{No}
 use Rattle.c_store.specs.declared.value.Value.{Value}
 use Rattle.c_store.specs.declared.value.Value.TheVariants.{At}
-use Rattle.c_store.specs.declared.value.Pointer.{Pointer}
 use Rattle.c_tree.specs.Tables.{TablesShape}
 use Rattle.c_items.specs.declared.around.Around.{Around}
 use Rattle.c_items.specs.declared.around.Taken.{Taken}
 use Rattle.c_items.specs.declared.around.Taken.TheVariants.{Read, Addressed}
 use Rattle.c_items.specs.Places.{is_place, has_scalar, has_array}
-use Rattle.c_items.specs.Tests.{noted_constant}
 use Rattle.c_items.specs.Walked.{Walked, is_read, is_written, with_site}
 use Rattle.c_items.specs.Walking.{walk_node}
 use Rattle.c_meaning.specs.State.{Bound}
@@ -23,7 +19,7 @@ use Rattle.c_meaning.specs.Layout.{part_in}
 use Rattle.c_meaning.specs.Operators.{converted}
 use Rattle.c_meaning.specs.Constants.{constant, type_at, element_in, field_in, place_in, integer_in, value_in, one_cells}
 use Rattle.probe_in.specs.Marks.{place_note, in_use, in_def}
-use Rattle.probe_in.specs.ProbedExpressions.{in_sites, sited, probed_node, probed_form}
+use Rattle.probe_in.specs.ProbedExpressions.{in_sites, probed_node, probed_form}
 use Rattle.probe_in.specs.Plain.{IsPlain}
 use Rattle.probe_in.proofs.Rounds.{same_type}
 use Rattle.probe_in.proofs.SameConstants.{same_constant}

@@ -1,33 +1,30 @@
 -- The constants of a select are the case constants.
-use Rattle.std.proofs.Common.{◌≡◌, ℕ, zero, suc, ◌-◌, ◌^◌, ◌<◌, ◌≤◌, ◌++◌, ℤ, pos, negsuc, ◌≤ℤ◌, ◌<ℤ◌, ◌-ℤ◌, neg_ℤ, List, [], ◌∷◌, Option, Some, None, Result, Ok, Err, Bool, true, false, ◌∙◌, refl, sym, ap, ap₂, true≢false, arith}
-use Rattle.std.specs.Prelude.{int_le, ◌&&◌, not, option_and_then, if◌then◌else◌}
+use Rattle.std.proofs.Common.{◌≡◌, ℕ, zero, suc, ◌-◌, ◌^◌, ◌<◌, ◌++◌, ℤ, pos, negsuc, ◌≤ℤ◌, ◌<ℤ◌, List, [], ◌∷◌, Option, Some, None, Bool, true, false, ◌∙◌, refl, sym, ap, ap₂, true≢false, arith}
+use Rattle.std.specs.Prelude.{int_le, ◌&&◌, not, if◌then◌else◌}
 use Rattle.std.specs.Result.{result_ok}
-use Rattle.std.specs.Fmt.{decimal}
 use Rattle.std.proofs.lemmas.Int.{ints, by_lt_z}
 use Rattle.std.proofs.lemmas.Bool.{and_from, and_parts}
 use Rattle.atac_base.specs.declared.place.Pos.{Pos}
 use Rattle.atac_base.specs.declared.place.IntKind.{IntKind}
 use Rattle.atac_base.specs.declared.place.IntKind.TheVariants.{Char, Short, Int, Long, UChar, UShort, UInt, ULong}
 use Rattle.c_arith.specs.declared.ArithUnary.TheVariants as one
-use Rattle.c_arith.specs.Arith.{least, greatest, InRange, in_range, is_signed, overflows, pattern, value_of, wrap, fitted, unary_result}
+use Rattle.c_arith.specs.Arith.{least, greatest, InRange, in_range, is_signed, pattern, value_of, wrap, fitted, unary_result}
 use Rattle.c_arith.proofs.Patterns.{bounds, pattern_below, value_of-in_range, wrap-only}
 use Rattle.c_arith.proofs.Results.{fitted-held}
 use Rattle.c_syntax.specs.declared.tree.UnaryOp.TheVariants as front
-use Rattle.c_syntax.specs.Shape.{int, NoteShape, typed, known, number, char, str, name, unary, before, size_of, plain, and, or, assign, comma, NodeShape, node, ExprShape, leaf, paren, call, prefix, size_of_type, cast, suffix, two, choose, probe, index, field, behind, LabelShape, case, default, ItemShapes, no_items, more_items}
-use Rattle.c_kinds.specs.declared.kinds.Radix.TheVariants.{Decimal, Octal}
-use Rattle.c_kinds.specs.Kinds.{promote, first_with}
+use Rattle.c_syntax.specs.Shape.{number, char, str, name, unary, before, size_of, plain, and, or, assign, comma, NodeShape, node, leaf, paren, call, prefix, size_of_type, cast, suffix, two, choose, probe, LabelShape, case, default, ItemShapes, no_items, more_items}
+use Rattle.c_kinds.specs.Kinds.{first_with}
 use Rattle.c_values.specs.declared.constants.Constant.{Constant}
 use Rattle.c_values.specs.declared.constants.Constant.TheVariants.{No, Faulty, Known, Variable, Part, Address, Literal}
-use Rattle.c_values.specs.Numbers as numbers
 use Rattle.c_values.specs.Constants as constants
 use Rattle.c_values.specs.Constants.{given, unary_value}
 use Rattle.c_items.specs.declared.around.Taken.{Taken}
-use Rattle.c_items.specs.declared.around.Taken.TheVariants.{Read, Changed}
+use Rattle.c_items.specs.declared.around.Taken.TheVariants.{Read}
 use Rattle.c_items.specs.Tests as tests
 use Rattle.c_items.specs.Tests.{noted_constant, number_constant, cast_to, joined, case_value, label_values, case_values}
 use Rattle.c_items.specs.Walked.{operand_taken}
 use Rattle.c_meaning.specs.Constants.{constant, label_constants, case_constants, select_constants}
-use Rattle.probe_in.specs.Marks.{decimal_kind, number_at, constant_at, constants_at}
+use Rattle.probe_in.specs.Marks.{constant_at, constants_at}
 use Rattle.probe_in.specs.Plain.{IsPlain, ArePlainLabels, ArePlainItems}
 use Rattle.probe_in.proofs.ReadNumbers.{number_again, zero_again}
 

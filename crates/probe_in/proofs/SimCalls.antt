@@ -1,12 +1,8 @@
 -- Calls in a program with its probes do what the calls in the program do, and log what they tell.
-use Rattle.std.proofs.Common.{◌≡◌, ℕ, zero, suc, ◌+◌, ◌<◌, List, [], ◌∷◌, length, map, Option, Some, None, Bool, true, false, ◌∙◌, refl, sym, ap, ap₂, subst, arith}
+use Rattle.std.proofs.Common.{◌≡◌, ℕ, suc, ◌+◌, List, [], ◌∷◌, length, Option, Some, None, Bool, true, false, ◌∙◌, refl, sym, ap, ap₂, subst, arith}
 use Rattle.std.specs.Prelude.{nat_lt, nat_eq, if◌then◌else◌}
 use Rattle.atac_base.specs.declared.place.Pos.{Pos}
-use Rattle.c_syntax.specs.declared.text.Text.{Text}
-use Rattle.c_syntax.specs.declared.tree.Named.{Named}
-use Rattle.c_syntax.specs.declared.tree.Star.{Star}
-use Rattle.c_syntax.specs.declared.tree.ProbeMark.{ProbeMark}
-use Rattle.c_syntax.specs.Shape.{TypeOf, SpecShapes, DeclShape, decl, DeclShapes, no_decls, more_decls, DeclaratorShape, declarator, DeclaratorShapes, no_declarators, more_declarators, DeclFormShape, arrays, function, ParamsShape, empty, void, params, MaybeInit, CompoundShape, braces, ItemShapes, ExternalShape, defined, declared}
+use Rattle.c_syntax.specs.Shape.{TypeOf, DeclShape, decl, DeclShapes, no_decls, more_decls, DeclaratorShape, declarator, DeclaratorShapes, no_declarators, more_declarators, DeclFormShape, arrays, function, ParamsShape, empty, void, params, CompoundShape, braces, ItemShapes, ExternalShape, defined, declared}
 use Rattle.c_store.specs.declared.value.Value.{Value}
 use Rattle.c_tree.specs.Tables.{TablesShape}
 use Rattle.c_tree.specs.State.{row, first_place}
@@ -19,20 +15,19 @@ use Rattle.c_meaning.specs.declared.end.Flow.{Flow}
 use Rattle.c_meaning.specs.declared.end.Flow.TheVariants.{Next, Break, Continue, Return}
 use Rattle.c_meaning.specs.declared.end.Stop.TheVariants as stop
 use Rattle.c_meaning.specs.State.{State}
-use Rattle.c_meaning.specs.Results.{Got, Gives, Stops, then_do, present}
+use Rattle.c_meaning.specs.Results.{Stops}
 use Rattle.c_meaning.specs.Layout.{variable_kind}
-use Rattle.c_meaning.specs.Firsts.{First, quiet, heard, noted_block, noted_begun, at_block}
-use Rattle.c_meaning.specs.Counts.{IsBefore, variables_of, variables_among, decl_variables, decls_variables, params_variables, signature_variables, external_variables, past_name, past_param, past_params, past_external}
+use Rattle.c_meaning.specs.Firsts.{quiet, heard, noted_begun}
+use Rattle.c_meaning.specs.Counts.{IsBefore, variables_of, variables_among, decl_variables, decls_variables, params_variables, signature_variables, external_variables, past_param, past_external}
 use Rattle.c_meaning.specs.Knot.{Knot}
-use Rattle.c_meaning.specs.Declarations.{bind, next_variable}
-use Rattle.c_meaning.specs.Statements.{compound_flow}
-use Rattle.c_meaning.specs.Calls.{Routine, routine_in, given_variable, given, given_params, given_all, activated, entered, past_signature, body_flow, result_in, returned, called_routine, called_found}
+use Rattle.c_meaning.specs.Declarations.{bind}
+use Rattle.c_meaning.specs.Calls.{Routine, routine_in, given_variable, given, given_params, given_all, activated, past_signature, body_flow, result_in, returned, called_routine, called_found}
 use Rattle.c_meaning.proofs.Declared.{defined_count, param_count, params_count, external_count}
-use Rattle.c_meaning.proofs.Walks.{on_further, block_on, defined_on, param_on, params_on, compound_on, external_on, externals_on}
-use Rattle.probe_in.specs.Marks.{next_block, mark_at, defined_name}
+use Rattle.c_meaning.proofs.Walks.{on_further, block_on, defined_on, param_on, compound_on, externals_on}
+use Rattle.probe_in.specs.Marks.{next_block, mark_at}
 use Rattle.probe_in.specs.ProbedStatements.{probed_compound}
-use Rattle.probe_in.specs.Instrumented.{defined_declarator, defined_declarators, defined_decl, defined_decls, defined_params, defined_signature, probed_function, probed_external, probed_externals}
-use Rattle.probe_in.specs.Plain.{IsNamed, AreDefined, IsDefining, AreDefining, ArePlainParams, IsPlainSignature, HasNoMarks, IsPlainCompound, ArePlainExternals, HasFewItems}
+use Rattle.probe_in.specs.Instrumented.{defined_declarator, defined_declarators, defined_decl, defined_decls, defined_params, defined_signature, probed_external, probed_externals}
+use Rattle.probe_in.specs.Plain.{IsDefining, AreDefining, ArePlainParams, IsPlainSignature, IsPlainCompound, ArePlainExternals, HasFewItems}
 use Rattle.probe_in.proofs.Few.{few_before, few_defs, same_before}
 use Rattle.probe_in.proofs.Told.{as_log, with_log, sim_then, sim_turn, sim_if, sim_present, begun_told, make_sim, scalar_sim}
 use Rattle.probe_in.proofs.Loops.{Follows}

@@ -1,9 +1,8 @@
 -- Declarations with their probes do what the declarations do, and log what they tell.
-use Rattle.std.proofs.Common.{◌≡◌, ℕ, suc, ◌+◌, ◌<◌, List, [], ◌∷◌, Option, Some, None, Bool, true, false, ◌∙◌, refl, sym, ap}
+use Rattle.std.proofs.Common.{◌≡◌, ℕ, suc, ◌+◌, ◌<◌, List, Option, ◌∙◌, refl, sym, ap}
 use Rattle.c_syntax.specs.declared.tree.Named.{Named}
 use Rattle.c_syntax.specs.declared.tree.Star.{Star}
 use Rattle.c_syntax.specs.Shape.{TypeOf, int, pointer, array, structure, nothing, NodeShape, DeclShape, decl, DeclShapes, no_decls, more_decls, DeclaratorShape, declarator, DeclaratorShapes, no_declarators, more_declarators, LengthShapes, arrays, function, MaybeInit, no_init, one_init, InitShape, one, listed}
-use Rattle.c_store.specs.declared.value.Value.{Value}
 use Rattle.c_tree.specs.Tables.{TablesShape}
 use Rattle.c_items.specs.declared.around.Around.{Around}
 use Rattle.c_items.specs.declared.around.Taken.TheVariants.{Read}
@@ -12,20 +11,19 @@ use Rattle.c_items.specs.Walking.{walk_node}
 use Rattle.c_items.specs.Stating.{whole, with_variable, with_whole_def, walk_init, walk_maybe_init, walk_declarator, walk_declarators, walk_decl, walk_decls}
 use Rattle.c_tree.specs.Parts.{name_pos}
 use Rattle.c_tree.specs.State.{first_place}
-use Rattle.c_meaning.specs.declared.end.Flow.{Flow}
 use Rattle.c_meaning.specs.declared.end.Flow.TheVariants.{Next}
 use Rattle.c_meaning.specs.State.{State}
-use Rattle.c_meaning.specs.Results.{Got, Gives, then_do, present, needed}
+use Rattle.c_meaning.specs.Results.{Gives, then_do, needed}
 use Rattle.c_meaning.specs.Layout.{cells, variable_kind}
 use Rattle.c_meaning.specs.Operators.{converted}
-use Rattle.c_meaning.specs.Firsts.{First, quiet, heard, noted_made, def_count, in_expression}
+use Rattle.c_meaning.specs.Firsts.{quiet, heard, noted_made, def_count}
 use Rattle.c_meaning.specs.Constants.{one_cells, init_cells}
-use Rattle.c_meaning.specs.Counts.{variables_of, decl_variables, decls_variables, past_name, past_def, past_declarator, past_decl, past_decls}
+use Rattle.c_meaning.specs.Counts.{past_declarator, past_decl, past_decls}
 use Rattle.c_meaning.specs.Knot.{Knot}
 use Rattle.c_meaning.specs.Expressions.{meaning}
-use Rattle.c_meaning.specs.Declarations.{make, bind, next_variable, scalar_written, filled_whole, one_value, initialised, bound_variable, made_variable, declared_variable, declared_name, declared_names, declared_decl, declared_all}
+use Rattle.c_meaning.specs.Declarations.{bind, scalar_written, filled_whole, one_value, initialised, bound_variable, made_variable, declared_name, declared_names, declared_decl, declared_all}
 use Rattle.c_meaning.proofs.Declared.{declarator_count, decl_count, decls_count}
-use Rattle.c_meaning.proofs.Walks.{on_further, node_on, declarator_on, decl_on, decls_on}
+use Rattle.c_meaning.proofs.Walks.{on_further, node_on, declarator_on, decls_on}
 use Rattle.c_meaning.specs.Counts.{IsBefore}
 use Rattle.probe_in.specs.Marks.{defined_name}
 use Rattle.probe_in.specs.ProbedExpressions.{probed_node}

@@ -3,12 +3,10 @@ use Rattle.std.proofs.Common.{◌≡◌, ℕ, ◌≤◌, ◌<◌, List, [], ◌�
 use Rattle.std.specs.Prelude.{pos, is_some, if◌then◌else◌}
 use Rattle.std.specs.Fmt.{decimal}
 use Rattle.atac_base.specs.declared.place.Pos.{Pos}
-use Rattle.c_arith.specs.Arith.{truth}
 use Rattle.c_syntax.specs.declared.text.Text.{Text}
 use Rattle.c_syntax.specs.declared.tree.UnaryOp.{UnaryOp}
 use Rattle.c_syntax.specs.declared.tree.UnaryOp.TheVariants as front
 use Rattle.c_syntax.specs.Shape.{TypeOf, int, pointer, array, structure, nothing, NoteShape, bare, typed, known, number, char, str, name, Step, unary, before, size_of, plain, and, or, assign, comma, dot, arrow, NodeShape, node, ExprShape, leaf, paren, call, prefix, size_of_type, cast, suffix, two, choose, probe, index, field, behind, used, def, NodeShapes, no_nodes, more_nodes}
-use Rattle.c_kinds.specs.Kinds.{is_scalar}
 use Rattle.c_values.specs.Numbers.{number_of}
 use Rattle.c_store.specs.declared.value.Value.{Value}
 use Rattle.c_store.specs.declared.value.Value.TheVariants.{Int}
@@ -19,26 +17,26 @@ use Rattle.c_items.specs.declared.around.Around.{Around}
 use Rattle.c_items.specs.declared.around.Taken.{Taken}
 use Rattle.c_items.specs.declared.around.Taken.TheVariants.{Read, Written, Changed, Addressed}
 use Rattle.c_items.specs.Places.{is_place, has_scalar}
-use Rattle.c_items.specs.Tests.{is_logical, is_logical_form, outcomes_of_form}
-use Rattle.c_items.specs.Walked.{Walked, pos_of, with_block, with_decision, with_test, with_site, inside, inside_test, operand_taken, next_decision}
+use Rattle.c_items.specs.Tests.{is_logical_form}
+use Rattle.c_items.specs.Walked.{Walked, pos_of, with_block, with_test, with_site, inside_test, next_decision}
 use Rattle.c_items.specs.Walking.{walk_node, walk_form, walk_test, walk_arm, walk_nodes}
 use Rattle.c_meaning.specs.State.{State}
-use Rattle.c_meaning.specs.Results.{Got, Gives, Stops, then_do, turn, settled, present, needed}
+use Rattle.c_meaning.specs.Results.{Got, Gives, Stops, then_do, turn, settled, needed}
 use Rattle.c_meaning.specs.Operators.{is_true, operated, stepped_by_one, element_pointer, of_one, target, pointed}
-use Rattle.c_meaning.specs.Firsts.{First, quiet, heard, block_count, def_count, use_count, outcome, noted_block, noted_outcome, noted_test}
-use Rattle.c_meaning.specs.Places.{marks, logs, loaded, stored, field_place}
+use Rattle.c_meaning.specs.Firsts.{First, quiet, heard, block_count, def_count, use_count, outcome, noted_block, noted_outcome}
+use Rattle.c_meaning.specs.Places.{marks, logs, loaded, field_place}
 use Rattle.c_meaning.specs.Constants.{type_at, kind_noted}
-use Rattle.c_meaning.specs.Knot.{Loop, Knot}
+use Rattle.c_meaning.specs.Knot.{Knot}
 use Rattle.c_meaning.specs.Builtins.{called, called_row, params_of}
-use Rattle.c_meaning.specs.Expressions.{Meaning, as_place, gives, operand, cast_value, tested, arm, last_test, written, assigned, step_value, meaning, form_meaning, arguments, log_block, log_test}
+use Rattle.c_meaning.specs.Expressions.{Meaning, as_place, gives, operand, cast_value, tested, arm, last_test, written, step_value, meaning, form_meaning, arguments, log_block, log_test}
 use Rattle.c_meaning.proofs.Walks.{node_on, test_node_on, arm_on}
-use Rattle.probe_in.specs.Marks.{next_block, next_def, next_use, round_value, in_block, in_test}
-use Rattle.probe_in.specs.ProbedExpressions.{in_sites, sited, probed_node, probed_form, probed_test, probed_arm, probed_nodes}
+use Rattle.probe_in.specs.Marks.{next_block, next_def, next_use, in_block, in_test}
+use Rattle.probe_in.specs.ProbedExpressions.{in_sites, probed_node, probed_form, probed_test, probed_arm, probed_nodes}
 use Rattle.probe_in.specs.Plain.{IsName, IsPlain, HasPlainParts, ArePlain, HasFewItems}
 use Rattle.probe_in.proofs.Few.{few_before, few_blocks, few_tests, few_read, form_before, nodes_before, right_before}
 use Rattle.probe_in.proofs.Loops.{Follows}
-use Rattle.probe_in.proofs.Told.{as_log, with_log, sim_then, sim_turn, sim_if, sim_settled, sim_present, sim_needed, logs_is, logs_sim, block_told, outcome_told, loaded_sim, variable_sim, field_sim, written_sim, stepped_sim, number_sim, literal_sim, noted_sim, built_in_sim}
-use Rattle.probe_in.proofs.Rounds.{same_type, same_operand, form_uses, sited_place, block_value, test_value, read_sim, IsWrittenAt, IsChangedAt, written_at, changed_at, no_uses, no_defs}
+use Rattle.probe_in.proofs.Told.{as_log, with_log, sim_then, sim_turn, sim_if, sim_settled, sim_needed, logs_is, logs_sim, block_told, outcome_told, loaded_sim, variable_sim, field_sim, written_sim, stepped_sim, number_sim, literal_sim, noted_sim, built_in_sim}
+use Rattle.probe_in.proofs.Rounds.{same_type, same_operand, form_uses, sited_place, block_value, test_value, read_sim, written_at, changed_at, no_uses, no_defs}
 
 -- ---- parts of operators
 

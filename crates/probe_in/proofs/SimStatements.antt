@@ -1,9 +1,8 @@
 -- Statements with their probes do what the statements do, and log what they tell.
-use Rattle.std.proofs.Common.{◌≡◌, ℕ, ◌+◌, ◌≤◌, ◌<◌, List, [], ◌∷◌, length, map, Option, Some, None, Bool, true, false, ◌∙◌, refl, sym, ap, ap₂, subst, arith}
+use Rattle.std.proofs.Common.{◌≡◌, ℕ, ◌+◌, ◌≤◌, [], ◌∷◌, length, map, Option, Bool, true, false, ◌∙◌, refl, sym, ap, ap₂, subst, arith}
 use Rattle.std.specs.Prelude.{◌||◌}
 use Rattle.std.specs.Fmt.{decimal}
 use Rattle.atac_base.specs.declared.place.Pos.{Pos}
-use Rattle.atac_base.specs.declared.place.IntKind.{IntKind}
 use Rattle.c_syntax.specs.Shape.{NodeShape, node, MaybeNode, no_node, one_node, StmtShape, stmt, FormShape, compound, simply, when, either, while, do_while, for, switch, break, continue, return, CompoundShape, braces, ItemShapes, no_items, more_items}
 use Rattle.c_store.specs.declared.value.Value.{Value}
 use Rattle.c_tree.specs.Tables.{TablesShape}
@@ -12,25 +11,25 @@ use Rattle.c_items.specs.declared.around.Taken.TheVariants.{Read}
 use Rattle.c_items.specs.Items.{cases}
 use Rattle.c_items.specs.Tests.{choosing, case_values}
 use Rattle.c_items.specs.Walked.{Walked, pos_of, inside, with_block, with_block_if, with_decision, next_decision}
-use Rattle.c_items.specs.Walking.{walk_node, walk_test, walk_maybe, walk_loop_test, walk_maybe_test, walk_step}
+use Rattle.c_items.specs.Walking.{walk_test, walk_maybe, walk_loop_test, walk_maybe_test, walk_step}
 use Rattle.c_items.specs.Stating.{walk_decls, pos_of_stmt, splits, is_labelled, walk_choice, walk_stmt, walk_body, walk_part, walk_compound, walk_items}
 use Rattle.c_meaning.specs.declared.end.Flow.{Flow}
 use Rattle.c_meaning.specs.declared.end.Flow.TheVariants.{Next, Break, Continue, Return}
 use Rattle.c_meaning.specs.State.{State}
 use Rattle.c_meaning.specs.Results.{Got, Gives, Stops, then_do, needed}
-use Rattle.c_meaning.specs.Firsts.{First, in_expression, quiet, heard, noted_block, noted_outcome, at_block, behind_test}
+use Rattle.c_meaning.specs.Firsts.{First, quiet, heard, noted_block, noted_outcome}
 use Rattle.c_meaning.specs.Places.{logs}
 use Rattle.c_meaning.specs.Constants.{case_constants, select_constants, chosen_among}
-use Rattle.c_meaning.specs.Counts.{stmt_variables, past_stmt, past_decls, behind_maybe, behind_maybe_test, behind_step}
+use Rattle.c_meaning.specs.Counts.{stmt_variables, past_stmt}
 use Rattle.c_meaning.specs.Knot.{Loop, Knot}
 use Rattle.c_meaning.specs.Expressions.{meaning, gives, tested, log_block, log_test}
 use Rattle.c_meaning.specs.Statements.{Entry, here, entry_at, is_reached, passed, out_of_switch, after_one, discarded, step_flow, after_body, loop_test, while_loop, do_loop, for_loop, case_number, chosen_entry, scope_opened, flow, form_flow, compound_flow, items_flow, loop_turn}
 use Rattle.c_meaning.proofs.Declared.{test_node_count, maybe_count, maybe_test_count, step_count, choice_count, block_count, stmt_count}
-use Rattle.c_meaning.proofs.Walks.{node_on, test_node_on, arm_on, maybe_on, loop_test_on, maybe_test_on, step_on, choice_on, decls_on, stmt_on, part_on, items_on}
-use Rattle.probe_in.specs.Marks.{next_block, block_marks, constants_at, in_block, in_select}
+use Rattle.c_meaning.proofs.Walks.{node_on, test_node_on, loop_test_on, maybe_test_on, step_on, stmt_on, part_on, items_on}
+use Rattle.probe_in.specs.Marks.{next_block, block_marks, constants_at, in_select}
 use Rattle.probe_in.specs.ProbedExpressions.{probed_node, probed_test, probed_maybe, probed_loop_test, probed_maybe_test, probed_step, probed_choice}
-use Rattle.probe_in.specs.ProbedStatements.{probed_decls, probed_stmt, probed_body, probed_compound, probed_items}
-use Rattle.probe_in.specs.Plain.{IsPlain, IsPlainMaybe, IsPlainStmt, IsPlainBody, IsPlainCompound, ArePlainItems, HasFewItems}
+use Rattle.probe_in.specs.ProbedStatements.{probed_stmt, probed_body, probed_compound, probed_items}
+use Rattle.probe_in.specs.Plain.{IsPlainMaybe, IsPlainStmt, IsPlainBody, IsPlainCompound, ArePlainItems, HasFewItems}
 use Rattle.probe_in.proofs.Few.{few_before, few_blocks, few_decisions}
 use Rattle.probe_in.proofs.Told.{as_log, with_log, sim_then, sim_turn, sim_if, sim_needed, logs_is, logs_sim, block_told, outcome_told}
 use Rattle.probe_in.proofs.Loops.{HeardLoop, told_loop, probed_loop, IsPlainLoop, Follows}

@@ -1,5 +1,5 @@
 -- A run of a program with its probes is the program's own run, and its log is what is told of that.
-use Rattle.std.proofs.Common.{◌≡◌, ℕ, zero, suc, ◌+◌, ◌<◌, List, [], ◌∷◌, Option, Some, None, false, ◌∙◌, refl, sym, ap}
+use Rattle.std.proofs.Common.{◌≡◌, ℕ, zero, suc, ◌+◌, ◌<◌, List, [], ◌∷◌, Option, false, ◌∙◌, refl, ap}
 use Rattle.c_syntax.specs.declared.text.Text.{Text}
 use Rattle.c_syntax.specs.declared.tree.Named.{Named}
 use Rattle.c_syntax.specs.Shape.{TypeOf, decl, DeclaratorShape, declarator, DeclaratorShapes, no_declarators, more_declarators, arrays, function, MaybeInit, braces, ExternalShape, defined, declared}
@@ -13,13 +13,12 @@ use Rattle.c_items.specs.Stating.{whole, with_variable}
 use Rattle.c_items.specs.Units.{define_declarator, define_declarators, in_function, walk_external, walk_externals, no_items}
 use Rattle.c_meaning.specs.declared.end.Stop.TheVariants as stop
 use Rattle.c_meaning.specs.State.{State, start}
-use Rattle.c_meaning.specs.Results.{Got, Gives, Stops, present}
+use Rattle.c_meaning.specs.Results.{Got, Gives, Stops}
 use Rattle.c_meaning.specs.Layout.{variable_kind}
 use Rattle.c_meaning.specs.Firsts.{quiet, heard, def_count}
-use Rattle.c_meaning.specs.Knot.{Knot}
 use Rattle.c_meaning.specs.Declarations.{bind_file, file_cells, file_variable, file_name, file_names}
 use Rattle.c_meaning.specs.Calls.{Source, knot, calls}
-use Rattle.c_meaning.specs.Runs.{literals_made, external_made, externals_made, all_made, main_number, main_called, outcome, silent, audible, run}
+use Rattle.c_meaning.specs.Runs.{literals_made, external_made, externals_made, all_made, main_number, main_called, outcome, silent, audible}
 use Rattle.c_meaning.proofs.Walks.{externals_on}
 use Rattle.probe_in.specs.Marks.{defined_name}
 use Rattle.probe_in.specs.Instrumented.{defined_declarator, defined_declarators, probed_external, probed_externals, instrumented}

@@ -8,9 +8,8 @@ use Rattle.atac_base.specs.declared.probes.Event.TheVariants.{Block, Def, Use, T
 use Rattle.c_syntax.specs.declared.text.Text.{Text}
 use Rattle.c_syntax.specs.declared.tree.Named.{Named}
 use Rattle.c_syntax.specs.declared.tree.ProbeMark.{ProbeMark}
-use Rattle.c_syntax.specs.Shape.{TypeOf, int, pointer, array, structure, nothing, NoteShape, bare, typed, known, NodeShape}
+use Rattle.c_syntax.specs.Shape.{TypeOf, int, pointer, array, structure, nothing, NoteShape, bare, typed, known}
 use Rattle.c_values.specs.declared.numbers.Number.{Number}
-use Rattle.c_values.specs.Probes.{probe_number_of}
 use Rattle.c_store.specs.declared.value.Value.{Value}
 use Rattle.c_store.specs.declared.value.Value.TheVariants.{Int, Null, At}
 use Rattle.c_store.specs.declared.value.Pointer.{Pointer}
@@ -22,7 +21,6 @@ use Rattle.c_tree.specs.Builtins.{builtin_name}
 use Rattle.c_tree.specs.declared.meaning.Builtin.TheVariants.{GetChar, PutChar, Exit}
 use Rattle.c_items.specs.declared.around.Around.{Around}
 use Rattle.c_items.specs.Places.{has_scalar}
-use Rattle.c_items.specs.Tests.{is_logical}
 use Rattle.c_items.specs.Walked.{Walked, next_decision}
 use Rattle.c_meaning.specs.State.{Act, begins, makes, tells, repeats, Deed, State, activation, did, logged, instance_of}
 use Rattle.c_meaning.specs.Deeds.{told, told_by}
@@ -30,7 +28,7 @@ use Rattle.c_meaning.specs.Results.{Got, Gives, Stops, then_do, turn_of, turn, t
 use Rattle.c_meaning.specs.Operators.{converted}
 use Rattle.c_meaning.specs.declared.end.Flow.TheVariants.{Next}
 use Rattle.c_meaning.specs.Layout.{Part, cells, part_in}
-use Rattle.c_meaning.specs.Firsts.{First, quiet, heard, cell_at, use_count, def_count, block_count, noted_block, noted_outcome, noted_test, noted_use, noted_def, noted_made, noted_begun, outcome}
+use Rattle.c_meaning.specs.Firsts.{quiet, heard, cell_at, use_count, def_count, noted_block, noted_outcome, noted_use, noted_def, noted_made, noted_begun}
 use Rattle.c_meaning.specs.Places.{whole, first_cell, next_cell, logs_one, logs, log_use, log_def, loaded, stored, fetched, variable_place, part_place, field_place, room, has_part, selected_place}
 use Rattle.c_meaning.specs.Builtins.{next_byte, put_byte, exits, built_in}
 use Rattle.c_meaning.specs.Expressions.{gives, number_value, literal_value, noted_value, written, stepped_from, log_block, log_test}
