@@ -13,3 +13,4 @@ mod SimStatements
 mod SimCalls
 pub mod Simulation
 mod Worked
+mod WorkedTyped
