@@ -14,7 +14,7 @@ use Rattle.c_items.specs.Walking.{walk_node, walk_form, walk_test, walk_arm, wal
 use Rattle.c_meaning.specs.Firsts.{block_count, def_count, use_count}
 use Rattle.c_meaning.specs.Counts.{IsBefore}
 use Rattle.c_meaning.proofs.Walks.{on_further, node_on, test_node_on, arm_on, block_on}
-use Rattle.probe_in.specs.Plain.{HasFewItems}
+use Rattle.probe_in.specs.Fitting.{HasFewItems}
 
 pub few_before : {v w : Walked} → IsBefore v w → HasFewItems w → HasFewItems v
 few_before b few = record {
@@ -40,7 +40,7 @@ defs_then (decision p o ∷ items) i = defs_then items i
 defs_then (block p ∷ items) i = defs_then items i
 defs_then (used p f d o ∷ items) i = defs_then items i
 
-uses_then : (items : List Item) (i : Item) → use_count (items ++ i ∷ []) ≡ use_count items + use_count (i ∷ [])
+pub uses_then : (items : List Item) (i : Item) → use_count (items ++ i ∷ []) ≡ use_count items + use_count (i ∷ [])
 uses_then [] i = omega arith
 uses_then (used p f d o ∷ items) i = omega (arith, uses_then items i)
 uses_then (decision p o ∷ items) i = uses_then items i
@@ -68,7 +68,7 @@ few_tests p f w other few = (subst (λ b. HasFewItems (if b then w else with_dec
 pub few_defs : (p : Pos) (f : ℕ) (d : Option Direct) (w : Walked) → HasFewItems (with_item (def p f d) w) → def_count w.items < 16383
 few_defs p f d w few = omega (arith, defs_then w.items (def p f d), few.defs)
 
-few_uses : (b : Bool) (c : Around) (p : Pos) (d : Option Direct) (w : Walked) → b ≡ true → HasFewItems (with_use b c p d w) → use_count w.items < 16383
+pub few_uses : (b : Bool) (c : Around) (p : Pos) (d : Option Direct) (w : Walked) → b ≡ true → HasFewItems (with_use b c p d w) → use_count w.items < 16383
 few_uses true c p d w is few = omega (arith, uses_then w.items (used p c.function d c.owner), few.uses)
 few_uses false c p d w is few = absurd (true≢false (sym is))
 

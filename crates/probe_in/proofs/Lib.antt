@@ -1,4 +1,9 @@
 pub mod ReadNumbers
+mod Ready
+mod ReadyUnits
+mod OwnPlain
+mod OwnProbed
+pub mod OwnUnits
 mod Told
 mod Few
 mod Rounds

@@ -12,7 +12,8 @@ use Rattle.c_meaning.specs.Firsts.{quiet, heard}
 use Rattle.c_meaning.specs.Knot.{Loop, Knot}
 use Rattle.probe_in.specs.ProbedExpressions.{probed_maybe_test, probed_step}
 use Rattle.probe_in.specs.ProbedStatements.{probed_stmt}
-use Rattle.probe_in.specs.Plain.{IsPlainMaybe, IsPlainStmt, HasFewItems}
+use Rattle.probe_in.specs.Fitting.{HasFewItems}
+use Rattle.probe_in.proofs.Ready.{IsReadyMaybe, IsReadyStmt}
 use Rattle.probe_in.proofs.Told.{as_log, with_log}
 
 -- a loop, with what is counted before each part
@@ -38,10 +39,10 @@ probed_loop t h = record {
   at_step = quiet h.at_step.variables;
 }
 
-pub record IsPlainLoop (t : TablesShape) (h : HeardLoop) : Type 0 where
-  pub test : IsPlainMaybe h.test
-  pub body : IsPlainStmt h.body
-  pub step : IsPlainMaybe h.step
+pub record IsReadyLoop (t : TablesShape) (h : HeardLoop) : Type 0 where
+  pub test : IsReadyMaybe h.test
+  pub body : IsReadyStmt h.body
+  pub step : IsReadyMaybe h.step
   pub few_tests : HasFewItems (walk_maybe_test h.around h.test h.at_test)
   pub few_bodies : HasFewItems (walk_stmt t h.around h.body (with_block (pos_of_stmt h.body) h.at_body))
   pub few_steps : HasFewItems (walk_step h.around h.step h.at_step)
@@ -49,4 +50,4 @@ pub record IsPlainLoop (t : TablesShape) (h : HeardLoop) : Type 0 where
 -- the first knot does what the other does, and logs what it tells
 pub record Follows (t : TablesShape) (k l : Knot) : Type 0 where
   pub call_follows : (f : ℕ) (vs : List Value) (s : State) → k.call f vs (as_log s) ≡ with_log (l.call f vs s)
-  pub again_follows : (h : HeardLoop) → IsPlainLoop t h → (s : State) → k.again (probed_loop t h) (as_log s) ≡ with_log (l.again (told_loop h) s)
+  pub again_follows : (h : HeardLoop) → IsReadyLoop t h → (s : State) → k.again (probed_loop t h) (as_log s) ≡ with_log (l.again (told_loop h) s)

@@ -25,7 +25,8 @@ use Rattle.c_meaning.specs.Knot.{Knot}
 use Rattle.c_meaning.specs.Expressions.{Meaning, as_place, gives, operand, meaning, form_meaning, log_block, log_test}
 use Rattle.probe_in.specs.Marks.{place_note, next_def, next_use, round_value, in_use, in_def}
 use Rattle.probe_in.specs.ProbedExpressions.{in_sites, sited, probed_node, probed_form}
-use Rattle.probe_in.specs.Plain.{IsPlain, HasFewItems}
+use Rattle.probe_in.specs.Fitting.{HasFewItems}
+use Rattle.probe_in.proofs.Ready.{IsReady}
 use Rattle.probe_in.proofs.Few.{few_before, form_before, few_written, few_changed, few_changed_use}
 use Rattle.probe_in.proofs.Told.{as_log, with_log, sim_then, fetched_use, fetched_other}
 
@@ -179,7 +180,7 @@ changed_site c p o n f w place scalar few =
       few_uses = few_changed_use c p n f w place scalar was;
     }
 
-pub written_at : (c : Around) (a : NodeShape) (w : Walked) → IsPlain Written a → HasFewItems (walk_node c Written a w) → IsWrittenAt (probed_node c Written a w) w
+pub written_at : (c : Around) (a : NodeShape) (w : Walked) → IsReady Written a → HasFewItems (walk_node c Written a w) → IsWrittenAt (probed_node c Written a w) w
 written_at c (node p o n (paren a)) w clean few = let i = written_at c a w clean.1 few in record { defs = i.defs; few = i.few }
 written_at c (node p o n (leaf l)) w clean few = written_site c p o n (leaf l) w clean.0 few
 written_at c (node p o n (call x args)) w clean few = absurd (true≢false (sym clean.0))
@@ -191,7 +192,7 @@ written_at c (node p o n (two u a b)) w clean few = absurd (true≢false (sym cl
 written_at c (node p o n (choose a b d)) w clean few = absurd (true≢false (sym clean.0))
 written_at c (node p o n (probe u a)) w clean few = absurd clean.1
 
-pub changed_at : (c : Around) (a : NodeShape) (w : Walked) → IsPlain Changed a → HasFewItems (walk_node c Changed a w) → IsChangedAt (probed_node c Changed a w) w
+pub changed_at : (c : Around) (a : NodeShape) (w : Walked) → IsReady Changed a → HasFewItems (walk_node c Changed a w) → IsChangedAt (probed_node c Changed a w) w
 changed_at c (node p o n (paren a)) w clean few = let i = changed_at c a w clean.1 few in record { defs = i.defs; uses = i.uses; few_defs = i.few_defs; few_uses = i.few_uses }
 changed_at c (node p o n (leaf l)) w clean few = changed_site c p o n (leaf l) w clean.0.0 clean.0.1 few
 changed_at c (node p o n (call x args)) w clean few = absurd (true≢false (sym clean.0.0))
@@ -204,7 +205,7 @@ changed_at c (node p o n (choose a b d)) w clean few = absurd (true≢false (sym
 changed_at c (node p o n (probe u a)) w clean few = absurd clean.1
 
 -- and a clean node has none
-pub no_uses : (r : Taken) (a : NodeShape) → IsPlain r a → marks used a ≡ []
+pub no_uses : (r : Taken) (a : NodeShape) → IsReady r a → marks used a ≡ []
 no_uses r (node p o n (paren a)) clean = no_uses r a clean.1
 no_uses r (node p o n (leaf l)) clean = refl
 no_uses r (node p o n (call x args)) clean = refl
@@ -216,7 +217,7 @@ no_uses r (node p o n (two u a b)) clean = refl
 no_uses r (node p o n (choose a b d)) clean = refl
 no_uses r (node p o n (probe u a)) clean = absurd clean.1
 
-pub no_defs : (r : Taken) (a : NodeShape) → IsPlain r a → marks def a ≡ []
+pub no_defs : (r : Taken) (a : NodeShape) → IsReady r a → marks def a ≡ []
 no_defs r (node p o n (paren a)) clean = no_defs r a clean.1
 no_defs r (node p o n (leaf l)) clean = refl
 no_defs r (node p o n (call x args)) clean = refl

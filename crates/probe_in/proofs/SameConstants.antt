@@ -22,7 +22,7 @@ use Rattle.c_items.specs.Walking.{walk_node, walk_test, walk_arm}
 use Rattle.c_meaning.specs.Constants.{constant, constant_form}
 use Rattle.probe_in.specs.Marks.{value_note, place_note, in_block, in_test, in_use, in_def}
 use Rattle.probe_in.specs.ProbedExpressions.{probed_node, probed_test, probed_arm}
-use Rattle.probe_in.specs.Plain.{IsPlain}
+use Rattle.probe_in.proofs.Ready.{IsReady}
 
 -- ---- constants by what they are asked for
 
@@ -106,7 +106,7 @@ same_arm c (node p o n f) w keeps = alike_further (block_alike w (probed_node c 
 
 -- ---- constants
 
-pub same_constant : (c : Around) (r : Taken) (a : NodeShape) (w : Walked) → IsPlain r a → constant (probed_node c r a w) ≡ constant a
+pub same_constant : (c : Around) (r : Taken) (a : NodeShape) (w : Walked) → IsReady r a → constant (probed_node c r a w) ≡ constant a
 same_constant c r (node p o n (leaf (number x))) w clean = refl
 same_constant c r (node p o n (leaf (char x))) w clean = refl
 same_constant c r (node p o n (leaf (str x))) w clean = refl

@@ -20,7 +20,7 @@ use Rattle.c_meaning.specs.Operators.{converted}
 use Rattle.c_meaning.specs.Constants.{constant, type_at, element_in, field_in, place_in, integer_in, value_in, one_cells}
 use Rattle.probe_in.specs.Marks.{place_note, in_use, in_def}
 use Rattle.probe_in.specs.ProbedExpressions.{in_sites, probed_node, probed_form}
-use Rattle.probe_in.specs.Plain.{IsPlain}
+use Rattle.probe_in.proofs.Ready.{IsReady}
 use Rattle.probe_in.proofs.Rounds.{same_type}
 use Rattle.probe_in.proofs.SameConstants.{same_constant}
 
@@ -71,7 +71,7 @@ module _ (t : TablesShape) (bs : List Bound) where
       let b = if is_read r then scalar else false in
       def_in (is_written r) w (in_use b w a) ∙ use_in b w a
 
-  pub same_place : (c : Around) (r : Taken) (a : NodeShape) (w : Walked) → IsPlain r a → place_in t bs (probed_node c r a w) ≡ place_in t bs a
+  pub same_place : (c : Around) (r : Taken) (a : NodeShape) (w : Walked) → IsReady r a → place_in t bs (probed_node c r a w) ≡ place_in t bs a
   same_place c r (node p o n (leaf (number x))) w clean = refl
   same_place c r (node p o n (leaf (char x))) w clean = refl
   same_place c r (node p o n (leaf (str x))) w clean = refl
@@ -128,7 +128,7 @@ module _ (t : TablesShape) (bs : List Bound) where
   name_in w p o (known k v) x = refl
   name_in w p o bare x = refl
 
-  pub same_value : (c : Around) (a : NodeShape) (w : Walked) → IsPlain Read a → value_in t bs (probed_node c Read a w) ≡ value_in t bs a
+  pub same_value : (c : Around) (a : NodeShape) (w : Walked) → IsReady Read a → value_in t bs (probed_node c Read a w) ≡ value_in t bs a
   same_value c (node p o n (leaf (number x))) w clean = refl
   same_value c (node p o n (leaf (char x))) w clean = refl
   same_value c (node p o n (leaf (str x))) w clean = refl
@@ -165,30 +165,33 @@ module _ (t : TablesShape) (bs : List Bound) where
   use_cells k m true w p o n g is = refl
   use_cells k m false w p o n g is = is
 
-  pub same_cells : (k : TypeOf) (m : ℕ) (c : Around) (a : NodeShape) (w : Walked) → IsPlain Read a → one_cells t bs (array k m) (probed_node c Read a w) ≡ one_cells t bs (array k m) a
+  same_all : (k : TypeOf) (m : ℕ) {x y : Option Value} → x ≡ y → (option_map (converted (array k m)) x ∷ []) ≡ (option_map (converted (array k m)) y ∷ [])
+  same_all k m e = ap (λ z. option_map (converted (array k m)) z ∷ []) e
+
+  pub same_cells : (k : TypeOf) (m : ℕ) (c : Around) (a : NodeShape) (w : Walked) → IsReady Read a → one_cells t bs (array k m) (probed_node c Read a w) ≡ one_cells t bs (array k m) a
   same_cells k m c (node p o n (leaf (number x))) w clean = refl
   same_cells k m c (node p o n (leaf (char x))) w clean = refl
   same_cells k m c (node p o n (leaf (str x))) w clean = refl
-  same_cells k m c (node p o n (leaf (name x))) w clean = use_cells k m (has_scalar n) w p o n _ refl ∙ ap (λ z. option_map (converted (array k m)) z ∷ []) (same_value c (node p o n (leaf (name x))) w clean)
-  same_cells k m c (node p o n (paren a)) w clean = ap (λ z. option_map (converted (array k m)) z ∷ []) (same_value c (node p o n (paren a)) w clean)
+  same_cells k m c (node p o n (leaf (name x))) w clean = use_cells k m (has_scalar n) w p o n _ refl ∙ same_all k m (same_value c (node p o n (leaf (name x))) w clean)
+  same_cells k m c (node p o n (paren a)) w clean = same_all k m (same_value c (node p o n (paren a)) w clean)
   same_cells k m c (node p o n (call x args)) w clean = refl
-  same_cells k m c (node p o n (prefix (unary front.Deref) a)) w clean = use_cells k m (has_scalar n) w p o n _ refl ∙ ap (λ z. option_map (converted (array k m)) z ∷ []) (same_value c (node p o n (prefix (unary front.Deref) a)) w clean)
-  same_cells k m c (node p o n (prefix (unary front.AddressOf) a)) w clean = ap (λ z. option_map (converted (array k m)) z ∷ []) (same_value c (node p o n (prefix (unary front.AddressOf) a)) w clean)
-  same_cells k m c (node p o n (prefix (unary front.Plus) a)) w clean = ap (λ z. option_map (converted (array k m)) z ∷ []) (same_value c (node p o n (prefix (unary front.Plus) a)) w clean)
-  same_cells k m c (node p o n (prefix (unary front.Minus) a)) w clean = ap (λ z. option_map (converted (array k m)) z ∷ []) (same_value c (node p o n (prefix (unary front.Minus) a)) w clean)
-  same_cells k m c (node p o n (prefix (unary front.Flip) a)) w clean = ap (λ z. option_map (converted (array k m)) z ∷ []) (same_value c (node p o n (prefix (unary front.Flip) a)) w clean)
-  same_cells k m c (node p o n (prefix (unary front.Not) a)) w clean = ap (λ z. option_map (converted (array k m)) z ∷ []) (same_value c (node p o n (prefix (unary front.Not) a)) w clean)
+  same_cells k m c (node p o n (prefix (unary front.Deref) a)) w clean = use_cells k m (has_scalar n) w p o n _ refl ∙ same_all k m (same_value c (node p o n (prefix (unary front.Deref) a)) w clean)
+  same_cells k m c (node p o n (prefix (unary front.AddressOf) a)) w clean = same_all k m (same_value c (node p o n (prefix (unary front.AddressOf) a)) w clean)
+  same_cells k m c (node p o n (prefix (unary front.Plus) a)) w clean = same_all k m (same_value c (node p o n (prefix (unary front.Plus) a)) w clean)
+  same_cells k m c (node p o n (prefix (unary front.Minus) a)) w clean = same_all k m (same_value c (node p o n (prefix (unary front.Minus) a)) w clean)
+  same_cells k m c (node p o n (prefix (unary front.Flip) a)) w clean = same_all k m (same_value c (node p o n (prefix (unary front.Flip) a)) w clean)
+  same_cells k m c (node p o n (prefix (unary front.Not) a)) w clean = same_all k m (same_value c (node p o n (prefix (unary front.Not) a)) w clean)
   same_cells k m c (node p o n (prefix (before u) a)) w clean = refl
   same_cells k m c (node p o n (prefix size_of a)) w clean = refl
   same_cells k m c (node p o n (size_of_type y)) w clean = refl
-  same_cells k m c (node p o n (cast y a)) w clean = ap (λ z. option_map (converted (array k m)) z ∷ []) (same_value c (node p o n (cast y a)) w clean)
-  same_cells k m c (node p o n (suffix a (index b))) w clean = use_cells k m (has_scalar n) w p o n _ refl ∙ ap (λ z. option_map (converted (array k m)) z ∷ []) (same_value c (node p o n (suffix a (index b))) w clean)
-  same_cells k m c (node p o n (suffix a (field h x q))) w clean = use_cells k m (has_scalar n) w p o n _ refl ∙ ap (λ z. option_map (converted (array k m)) z ∷ []) (same_value c (node p o n (suffix a (field h x q))) w clean)
+  same_cells k m c (node p o n (cast y a)) w clean = same_all k m (same_value c (node p o n (cast y a)) w clean)
+  same_cells k m c (node p o n (suffix a (index b))) w clean = use_cells k m (has_scalar n) w p o n _ refl ∙ same_all k m (same_value c (node p o n (suffix a (index b))) w clean)
+  same_cells k m c (node p o n (suffix a (field h x q))) w clean = use_cells k m (has_scalar n) w p o n _ refl ∙ same_all k m (same_value c (node p o n (suffix a (field h x q))) w clean)
   same_cells k m c (node p o n (suffix a (behind u))) w clean = refl
-  same_cells k m c (node p o n (two (plain u) a b)) w clean = ap (λ z. option_map (converted (array k m)) z ∷ []) (same_value c (node p o n (two (plain u) a b)) w clean)
-  same_cells k m c (node p o n (two and a b)) w clean = ap (λ z. option_map (converted (array k m)) z ∷ []) (same_value c (node p o n (two and a b)) w clean)
-  same_cells k m c (node p o n (two or a b)) w clean = ap (λ z. option_map (converted (array k m)) z ∷ []) (same_value c (node p o n (two or a b)) w clean)
-  same_cells k m c (node p o n (two (assign u) a b)) w clean = ap (λ z. option_map (converted (array k m)) z ∷ []) (same_value c (node p o n (two (assign u) a b)) w clean)
-  same_cells k m c (node p o n (two comma a b)) w clean = ap (λ z. option_map (converted (array k m)) z ∷ []) (same_value c (node p o n (two comma a b)) w clean)
-  same_cells k m c (node p o n (choose a b d)) w clean = ap (λ z. option_map (converted (array k m)) z ∷ []) (same_value c (node p o n (choose a b d)) w clean)
+  same_cells k m c (node p o n (two (plain u) a b)) w clean = same_all k m (same_value c (node p o n (two (plain u) a b)) w clean)
+  same_cells k m c (node p o n (two and a b)) w clean = same_all k m (same_value c (node p o n (two and a b)) w clean)
+  same_cells k m c (node p o n (two or a b)) w clean = same_all k m (same_value c (node p o n (two or a b)) w clean)
+  same_cells k m c (node p o n (two (assign u) a b)) w clean = same_all k m (same_value c (node p o n (two (assign u) a b)) w clean)
+  same_cells k m c (node p o n (two comma a b)) w clean = same_all k m (same_value c (node p o n (two comma a b)) w clean)
+  same_cells k m c (node p o n (choose a b d)) w clean = same_all k m (same_value c (node p o n (choose a b d)) w clean)
   same_cells k m c (node p o n (probe u a)) w clean = absurd clean.1

@@ -25,12 +25,12 @@ use Rattle.c_items.specs.Tests.{noted_constant, number_constant, cast_to, joined
 use Rattle.c_items.specs.Walked.{operand_taken}
 use Rattle.c_meaning.specs.Constants.{constant, label_constants, case_constants, select_constants}
 use Rattle.probe_in.specs.Marks.{constant_at, constants_at}
-use Rattle.probe_in.specs.Plain.{IsPlain, ArePlainLabels, ArePlainItems}
+use Rattle.probe_in.proofs.Ready.{IsReady, AreReadyLabels, AreReadyItems}
 use Rattle.probe_in.proofs.ReadNumbers.{number_again, zero_again}
 
 -- ---- case constants: without probes the constants are those that the walk counts with
 
-walk_constant : (r : Taken) (a : NodeShape) → IsPlain r a → constant a ≡ tests.constant a
+walk_constant : (r : Taken) (a : NodeShape) → IsReady r a → constant a ≡ tests.constant a
 walk_constant r (node p o n (leaf (number x))) clean = refl
 walk_constant r (node p o n (leaf (char x))) clean = refl
 walk_constant r (node p o n (leaf (str x))) clean = refl
@@ -53,12 +53,12 @@ walk_constant r (node p o n (choose a b d)) clean =
     ∙ ap₂ (λ y z. noted_constant n (constants.choice (tests.constant a) y z)) (walk_constant Read b clean.1.1) (walk_constant Read d clean.1.2)
 walk_constant r (node p o n (probe u a)) clean = absurd clean.1
 
-walk_labels : (k : Option IntKind) (labels : List LabelShape) → ArePlainLabels labels → label_constants k labels ≡ label_values k labels
+walk_labels : (k : Option IntKind) (labels : List LabelShape) → AreReadyLabels labels → label_constants k labels ≡ label_values k labels
 walk_labels k [] clean = refl
 walk_labels k (case p a ∷ labels) clean = ap₂ (λ y z. case_value k y ∷ z) (walk_constant Read a clean.0) (walk_labels k labels clean.1)
 walk_labels k (default p ∷ labels) clean = walk_labels k labels clean
 
-pub walk_cases : (k : Option IntKind) (items : ItemShapes) → ArePlainItems items → case_constants k items ≡ case_values k items
+pub walk_cases : (k : Option IntKind) (items : ItemShapes) → AreReadyItems items → case_constants k items ≡ case_values k items
 walk_cases k no_items clean = refl
 walk_cases k (more_items labels a rest) clean = ap₂ (λ y z. y ++ z) (walk_labels k labels clean.0) (walk_cases k rest clean.2)
 
@@ -206,5 +206,5 @@ constants_read : (p o : Pos) (k : Option IntKind) (zs : List ℤ) → AreCases k
 constants_read p o k [] are = refl
 constants_read p o k (z ∷ zs) are = ap₂ (λ y ys. y ∷ ys) (case_read p o k z are.0) (constants_read p o k zs are.1)
 
-pub select_read : (p o : Pos) (k : Option IntKind) (items : ItemShapes) → ArePlainItems items → select_constants k (constants_at p o (case_values k items)) ≡ case_constants k items
+pub select_read : (p o : Pos) (k : Option IntKind) (items : ItemShapes) → AreReadyItems items → select_constants k (constants_at p o (case_values k items)) ≡ case_constants k items
 select_read p o k items clean = constants_read p o k (case_values k items) (items_are_cases k items) ∙ sym (walk_cases k items clean)

@@ -27,7 +27,8 @@ use Rattle.c_meaning.proofs.Walks.{on_further, block_on, defined_on, param_on, c
 use Rattle.probe_in.specs.Marks.{next_block, mark_at}
 use Rattle.probe_in.specs.ProbedStatements.{probed_compound}
 use Rattle.probe_in.specs.Instrumented.{defined_declarator, defined_declarators, defined_decl, defined_decls, defined_params, defined_signature, probed_external, probed_externals}
-use Rattle.probe_in.specs.Plain.{IsDefining, AreDefining, ArePlainParams, IsPlainSignature, IsPlainCompound, ArePlainExternals, HasFewItems}
+use Rattle.probe_in.specs.Fitting.{HasFewItems}
+use Rattle.probe_in.proofs.Ready.{IsDefining, AreDefining, AreReadyParams, IsReadySignature, IsReadyCompound, AreReadyExternals}
 use Rattle.probe_in.proofs.Few.{few_before, few_defs, same_before}
 use Rattle.probe_in.proofs.Told.{as_log, with_log, sim_then, sim_turn, sim_if, sim_present, begun_told, make_sim, scalar_sim}
 use Rattle.probe_in.proofs.Loops.{Follows}
@@ -113,14 +114,14 @@ given_sim t f (more_decls d rest) w (v ∷ vs) s clean few =
     sim_then _ _ _ _ (param_sim t f d w v y s clean.0 (few_before (defining_before t f rest u) few)) (λ g s.
     ap (λ z. given t (defined_decls t f rest u) z vs (as_log s)) (param_after t f d w) ∙ given_sim t f rest u vs s clean.1 few))
 
-params_sim : (t : TablesShape) (f : ℕ) (ps : ParamsShape) (w : Walked) (vs : List Value) (s : State) → ArePlainParams ps → HasFewItems (define_params t f ps w) → given_params t (defined_params t f ps w) (quiet w.variables) vs (as_log s) ≡ with_log (given_params t ps (heard (in_function f) w) vs s)
+params_sim : (t : TablesShape) (f : ℕ) (ps : ParamsShape) (w : Walked) (vs : List Value) (s : State) → AreReadyParams ps → HasFewItems (define_params t f ps w) → given_params t (defined_params t f ps w) (quiet w.variables) vs (as_log s) ≡ with_log (given_params t ps (heard (in_function f) w) vs s)
 params_sim t f (params ds) w vs s clean few = given_sim t f ds w vs s clean few
 params_sim t f empty w [] s clean few = refl
 params_sim t f empty w (v ∷ vs) s clean few = refl
 params_sim t f void w [] s clean few = refl
 params_sim t f void w (v ∷ vs) s clean few = refl
 
-all_sim : (t : TablesShape) (f : ℕ) (d : DeclFormShape) (w : Walked) (vs : List Value) (s : State) → IsPlainSignature d → HasFewItems (define_parameters t f d w) → given_all t (defined_signature t f d w) (quiet w.variables) vs (as_log s) ≡ with_log (given_all t d (heard (in_function f) w) vs s)
+all_sim : (t : TablesShape) (f : ℕ) (d : DeclFormShape) (w : Walked) (vs : List Value) (s : State) → IsReadySignature d → HasFewItems (define_parameters t f d w) → given_all t (defined_signature t f d w) (quiet w.variables) vs (as_log s) ≡ with_log (given_all t d (heard (in_function f) w) vs s)
 all_sim t f (function ps) w vs s clean few = params_sim t f ps w vs s clean few
 all_sim t f (arrays ls) w vs s clean few = refl
 
@@ -143,12 +144,12 @@ probed_routine t f d (braces p ds items) w =
     record { params = defined_signature t f d w; marks = mark_at p (next_block v) ∷ []; body = probed_compound t (in_function f) (braces p ds items) (with_block p v); first = quiet w.variables }
 
 module _ (t : TablesShape) (k l : Knot) (follows : Follows t k l) where
-  body_flow_sim : (c : Around) (p : Pos) (ds : DeclShapes) (items : ItemShapes) (w : Walked) (s : State) → IsPlainCompound (braces p ds items) → HasFewItems (walk_compound t c (braces p ds items) (with_block p w)) → body_flow t k (mark_at p (next_block w) ∷ []) (probed_compound t c (braces p ds items) (with_block p w)) (quiet w.variables) (as_log s) ≡ with_log (body_flow t l [] (braces p ds items) (heard c w) s)
+  body_flow_sim : (c : Around) (p : Pos) (ds : DeclShapes) (items : ItemShapes) (w : Walked) (s : State) → IsReadyCompound (braces p ds items) → HasFewItems (walk_compound t c (braces p ds items) (with_block p w)) → body_flow t k (mark_at p (next_block w) ∷ []) (probed_compound t c (braces p ds items) (with_block p w)) (quiet w.variables) (as_log s) ≡ with_log (body_flow t l [] (braces p ds items) (heard c w) s)
   body_flow_sim c p ds items w s clean few =
       let v = with_block p w in
       mark_sim true p c w s _ _ (few_before (compound_on t c (braces p ds items) v) few) (λ s. sim_turn s _ _ (λ s. compound_sim t k l follows (braces p ds items) c v s clean few))
 
-  routine_sim : (f : ℕ) (d : DeclFormShape) (c : CompoundShape) (w : Walked) (vs : List Value) (s : State) → IsPlainSignature d → IsPlainCompound c → HasFewItems (walk_function t f d c w) → called_routine t k f (probed_routine t f d c w) vs (as_log s) ≡ with_log (called_routine t l f (plain_routine f d c w) vs s)
+  routine_sim : (f : ℕ) (d : DeclFormShape) (c : CompoundShape) (w : Walked) (vs : List Value) (s : State) → IsReadySignature d → IsReadyCompound c → HasFewItems (walk_function t f d c w) → called_routine t k f (probed_routine t f d c w) vs (as_log s) ≡ with_log (called_routine t l f (plain_routine f d c w) vs s)
   routine_sim f d (braces p ds items) w vs s clean body few =
       let v = define_parameters t f d w in
       let b = braces p ds items in
@@ -161,14 +162,14 @@ module _ (t : TablesShape) (k l : Knot) (follows : Follows t k l) where
       ∙ (body_flow_sim (in_function f) p ds items v s body few ∙ ap (λ z. with_log (body_flow t l [] b z s)) (sym (signature_heard t f d w))))
       (λ g s. returned_sim (result_in (row t.functions f)) g s))
 
-  pick_sim : (f n : ℕ) (b : Bool) (d : DeclFormShape) (c : CompoundShape) (w : Walked) (q' q : Option Routine) (vs : List Value) (s : State) → nat_eq n f ≡ b → IsPlainSignature d → IsPlainCompound c → HasFewItems (walk_function t n d c w) → called_found t k f q' vs (as_log s) ≡ with_log (called_found t l f q vs s) → called_found t k f (if b then Some (probed_routine t n d c w) else q') vs (as_log s) ≡ with_log (called_found t l f (if b then Some (plain_routine f d c w) else q) vs s)
+  pick_sim : (f n : ℕ) (b : Bool) (d : DeclFormShape) (c : CompoundShape) (w : Walked) (q' q : Option Routine) (vs : List Value) (s : State) → nat_eq n f ≡ b → IsReadySignature d → IsReadyCompound c → HasFewItems (walk_function t n d c w) → called_found t k f q' vs (as_log s) ≡ with_log (called_found t l f q vs s) → called_found t k f (if b then Some (probed_routine t n d c w) else q') vs (as_log s) ≡ with_log (called_found t l f (if b then Some (plain_routine f d c w) else q) vs s)
   pick_sim f n true d c w q' q vs s is clean body few go =
       let same : n ≡ f = grind (arith, is) in
       ap (λ z. called_routine t k f (probed_routine t z d c w) vs (as_log s)) same ∙ routine_sim f d c w vs s clean body (subst (λ z. HasFewItems (walk_function t z d c w)) same few)
   pick_sim f n false d c w q' q vs s is clean body few go = go
 
   -- the function of that number, if there is one
-  pub found_sim : (f : ℕ) (es : List ExternalShape) (c : Around) (w : Walked) (vs : List Value) (s : State) → ArePlainExternals es → HasFewItems (walk_externals t es w) → called_found t k f (routine_in t f (quiet w.variables) (probed_externals t es w)) vs (as_log s) ≡ with_log (called_found t l f (routine_in t f (heard c w) es) vs s)
+  pub found_sim : (f : ℕ) (es : List ExternalShape) (c : Around) (w : Walked) (vs : List Value) (s : State) → AreReadyExternals es → HasFewItems (walk_externals t es w) → called_found t k f (routine_in t f (quiet w.variables) (probed_externals t es w)) vs (as_log s) ≡ with_log (called_found t l f (routine_in t f (heard c w) es) vs s)
   found_sim f [] c w vs s clean few = refl
   found_sim f (declared d ∷ rest) c w vs s clean few =
       let u = walk_external t (declared d) w in

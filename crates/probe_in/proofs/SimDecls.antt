@@ -28,7 +28,8 @@ use Rattle.c_meaning.specs.Counts.{IsBefore}
 use Rattle.probe_in.specs.Marks.{defined_name}
 use Rattle.probe_in.specs.ProbedExpressions.{probed_node}
 use Rattle.probe_in.specs.ProbedStatements.{probed_init, probed_variable, probed_declarator, probed_declarators, probed_decl, probed_decls}
-use Rattle.probe_in.specs.Plain.{IsPlain, IsNamed, IsPlainInit, IsPlainVariable, IsPlainDeclarator, ArePlainDeclarators, IsPlainDecl, ArePlainDecls, HasFewItems}
+use Rattle.probe_in.specs.Fitting.{HasFewItems}
+use Rattle.probe_in.proofs.Ready.{IsReady, IsNamed, IsReadyInit, IsReadyVariable, IsReadyDeclarator, AreReadyDeclarators, IsReadyDecl, AreReadyDecls}
 use Rattle.probe_in.proofs.Few.{few_before, few_defs, same_before}
 use Rattle.probe_in.proofs.Told.{as_log, with_log, sim_then, sim_turns, sim_present, sim_needed, made_told, make_sim, whole_sim, scalar_sim}
 use Rattle.probe_in.proofs.Loops.{Follows}
@@ -38,7 +39,7 @@ use Rattle.probe_in.proofs.SameCounts.{declarator_same, decl_same, decls_same}
 
 -- ---- what is counted before
 
-declarators_before : (t : TablesShape) (c : Around) (ds : DeclaratorShapes) (w : Walked) → IsBefore w (walk_declarators t c ds w)
+pub declarators_before : (t : TablesShape) (c : Around) (ds : DeclaratorShapes) (w : Walked) → IsBefore w (walk_declarators t c ds w)
 declarators_before t c no_declarators w = same_before w
 declarators_before t c (more_declarators d rest) w = let v = walk_declarator t c d w in on_further w v (walk_declarators t c rest v) (declarator_on t c d w) (declarators_before t c rest v)
 
@@ -58,11 +59,11 @@ decls_after t c ds w = ap quiet (ap (λ m. w.variables + m) (decls_same t c ds w
 module _ (t : TablesShape) (k l : Knot) (follows : Follows t k l) where
   -- ---- initialisers
 
-  value_written : (y : TypeOf) (x : Option Named) (m : ℕ) (c : Around) (w : Walked) (j : ℕ) (a : NodeShape) (s : State) → IsNamed x → IsPlain Read a → (let v = with_whole_def t c.function x w in HasFewItems (walk_node c Read a v)) → def_count w.items < 16383 → (let v = with_whole_def t c.function x w in then_do (needed ((meaning t k (probed_node c Read a v)).value (quiet 0) (as_log s))) (λ z. scalar_written (defined_name x w) (quiet m) j (converted y z)) ≡ with_log (then_do (needed ((meaning t l a).value (heard c v) s)) (λ z. scalar_written x (heard c w) j (converted y z))))
+  value_written : (y : TypeOf) (x : Option Named) (m : ℕ) (c : Around) (w : Walked) (j : ℕ) (a : NodeShape) (s : State) → IsNamed x → IsReady Read a → (let v = with_whole_def t c.function x w in HasFewItems (walk_node c Read a v)) → def_count w.items < 16383 → (let v = with_whole_def t c.function x w in then_do (needed ((meaning t k (probed_node c Read a v)).value (quiet 0) (as_log s))) (λ z. scalar_written (defined_name x w) (quiet m) j (converted y z)) ≡ with_log (then_do (needed ((meaning t l a).value (heard c v) s)) (λ z. scalar_written x (heard c w) j (converted y z))))
   value_written y x m c w j a s named clean few below =
       sim_then _ _ _ _ (sim_needed _ _ (value_sim t k l follows c a (with_whole_def t c.function x w) clean few 0 s)) (λ z s. scalar_sim x m c w j (converted y z) s named below)
 
-  one_sim : (y : TypeOf) (x : Option Named) (m : ℕ) (c : Around) (w : Walked) (j : ℕ) (a : NodeShape) (s : State) → IsNamed x → IsPlain Read a → (let v = with_whole_def t c.function x w in HasFewItems (walk_node c Read a v)) → def_count w.items < 16383 → one_value t k y (defined_name x w) (quiet m) j (probed_node c Read a (with_whole_def t c.function x w)) (as_log s) ≡ with_log (one_value t l y x (heard c w) j a s)
+  one_sim : (y : TypeOf) (x : Option Named) (m : ℕ) (c : Around) (w : Walked) (j : ℕ) (a : NodeShape) (s : State) → IsNamed x → IsReady Read a → (let v = with_whole_def t c.function x w in HasFewItems (walk_node c Read a v)) → def_count w.items < 16383 → one_value t k y (defined_name x w) (quiet m) j (probed_node c Read a (with_whole_def t c.function x w)) (as_log s) ≡ with_log (one_value t l y x (heard c w) j a s)
   one_sim (array y n) x m c w j a s named clean few below =
       ap (λ z. filled_whole t (array y n) (defined_name x w) (quiet m) j z (as_log s)) (same_cells t s.file y n c a (with_whole_def t c.function x w) clean) ∙ whole_sim t (array y n) x m c w j (one_cells t s.file (array y n) a) s named below
   one_sim (int y) x m c w j a s named clean few below = value_written (int y) x m c w j a s named clean few below
@@ -70,20 +71,20 @@ module _ (t : TablesShape) (k l : Knot) (follows : Follows t k l) where
   one_sim (structure n) x m c w j a s named clean few below = value_written (structure n) x m c w j a s named clean few below
   one_sim nothing x m c w j a s named clean few below = value_written nothing x m c w j a s named clean few below
 
-  init_sim : (y : TypeOf) (x : Option Named) (m : ℕ) (c : Around) (w : Walked) (j : ℕ) (i : InitShape) (s : State) → IsNamed x → IsPlainInit i → HasFewItems (walk_init c i (with_whole_def t c.function x w)) → def_count w.items < 16383 → initialised t k y (defined_name x w) (quiet m) j (one_init (probed_init c i (with_whole_def t c.function x w))) (as_log s) ≡ with_log (initialised t l y x (heard c w) j (one_init i) s)
+  init_sim : (y : TypeOf) (x : Option Named) (m : ℕ) (c : Around) (w : Walked) (j : ℕ) (i : InitShape) (s : State) → IsNamed x → IsReadyInit i → HasFewItems (walk_init c i (with_whole_def t c.function x w)) → def_count w.items < 16383 → initialised t k y (defined_name x w) (quiet m) j (one_init (probed_init c i (with_whole_def t c.function x w))) (as_log s) ≡ with_log (initialised t l y x (heard c w) j (one_init i) s)
   init_sim y x m c w j (one a) s named clean few below = one_sim y x m c w j a s named clean few below
   init_sim y x m c w j (listed p items last) s named clean few below = whole_sim t y x m c w j (init_cells t s.file y (listed p items last)) s named below
 
   -- ---- variables
 
-  bound_sim : (x : Option Named) (i : InitShape) (c : Around) (w : Walked) (y : TypeOf) (j : ℕ) (s : State) → IsPlainVariable x (one_init i) → HasFewItems (walk_maybe_init t c x (one_init i) (with_variable w)) → (let v = with_variable w in bound_variable t k (defined_name x v) (one_init (probed_init c i (with_whole_def t c.function x v))) (quiet w.variables) y j (as_log s) ≡ with_log (bound_variable t l x (one_init i) (heard c w) y j s))
+  bound_sim : (x : Option Named) (i : InitShape) (c : Around) (w : Walked) (y : TypeOf) (j : ℕ) (s : State) → IsReadyVariable x (one_init i) → HasFewItems (walk_maybe_init t c x (one_init i) (with_variable w)) → (let v = with_variable w in bound_variable t k (defined_name x v) (one_init (probed_init c i (with_whole_def t c.function x v))) (quiet w.variables) y j (as_log s) ≡ with_log (bound_variable t l x (one_init i) (heard c w) y j s))
   bound_sim x i c w y j s clean few =
       let v = with_variable w in
       let z = bind (suc w.variables) j s in
       ap (initialised t k y (defined_name x v) (quiet (w.variables + 1)) j (one_init (probed_init c i (with_whole_def t c.function x v)))) (made_told c w (suc w.variables) z)
       ∙ init_sim y x (w.variables + 1) c v j i (noted_made (heard c w) (suc w.variables) z) clean.0 clean.1 few (few_defs (name_pos first_place x) c.function (whole t v.variables) v (few_name t c x i v few))
 
-  declared_sim : (stars : List Star) (x : Option Named) (ls : LengthShapes) (i : MaybeInit) (c : Around) (w : Walked) (s : State) → IsPlainVariable x i → HasFewItems (walk_maybe_init t c x i (with_variable w)) → declared_name t k (probed_variable t c stars x ls i (with_variable w)) (quiet w.variables) (as_log s) ≡ with_log (declared_name t l (declarator stars x (arrays ls) i) (heard c w) s)
+  declared_sim : (stars : List Star) (x : Option Named) (ls : LengthShapes) (i : MaybeInit) (c : Around) (w : Walked) (s : State) → IsReadyVariable x i → HasFewItems (walk_maybe_init t c x i (with_variable w)) → declared_name t k (probed_variable t c stars x ls i (with_variable w)) (quiet w.variables) (as_log s) ≡ with_log (declared_name t l (declarator stars x (arrays ls) i) (heard c w) s)
   declared_sim stars x ls no_init c w s clean few =
       sim_then _ _ _ _ (sim_present (variable_kind t (suc w.variables)) s) (λ y s.
       sim_turns (cells t y) s (made_variable t k x no_init (quiet w.variables) y) (made_variable t l x no_init (heard c w) y) (λ s.
@@ -96,21 +97,21 @@ module _ (t : TablesShape) (k l : Knot) (follows : Follows t k l) where
       sim_turns (cells t y) s (made_variable t k x' i' (quiet w.variables) y) (made_variable t l x (one_init i) (heard c w) y) (λ s.
       sim_then _ _ (bound_variable t k x' i' (quiet w.variables) y) (bound_variable t l x (one_init i) (heard c w) y) (make_sim t y s) (λ j s. bound_sim x i c w y j s clean few)))
 
-  name_sim : (d : DeclaratorShape) (c : Around) (w : Walked) (s : State) → IsPlainDeclarator d → HasFewItems (walk_declarator t c d w) → declared_name t k (probed_declarator t c d w) (quiet w.variables) (as_log s) ≡ with_log (declared_name t l d (heard c w) s)
+  name_sim : (d : DeclaratorShape) (c : Around) (w : Walked) (s : State) → IsReadyDeclarator d → HasFewItems (walk_declarator t c d w) → declared_name t k (probed_declarator t c d w) (quiet w.variables) (as_log s) ≡ with_log (declared_name t l d (heard c w) s)
   name_sim (declarator stars x (arrays ls) i) c w s clean few = declared_sim stars x ls i c w s clean few
   name_sim (declarator stars x (function ps) i) c w s clean few = refl
 
-  names_sim : (ds : DeclaratorShapes) (c : Around) (w : Walked) (s : State) → ArePlainDeclarators ds → HasFewItems (walk_declarators t c ds w) → declared_names t k (probed_declarators t c ds w) (quiet w.variables) (as_log s) ≡ with_log (declared_names t l ds (heard c w) s)
+  names_sim : (ds : DeclaratorShapes) (c : Around) (w : Walked) (s : State) → AreReadyDeclarators ds → HasFewItems (walk_declarators t c ds w) → declared_names t k (probed_declarators t c ds w) (quiet w.variables) (as_log s) ≡ with_log (declared_names t l ds (heard c w) s)
   names_sim no_declarators c w s clean few = refl
   names_sim (more_declarators d rest) c w s clean few =
       let v = walk_declarator t c d w in
       sim_then _ _ _ _ (name_sim d c w s clean.0 (few_before (declarators_before t c rest v) few)) (λ f s.
       ap (λ z. declared_names t k (probed_declarators t c rest v) z (as_log s)) (declarator_after t c d w) ∙ names_sim rest c v s clean.1 few)
 
-  decl_sim : (d : DeclShape) (c : Around) (w : Walked) (s : State) → IsPlainDecl d → HasFewItems (walk_decl t c d w) → declared_decl t k (probed_decl t c d w) (quiet w.variables) (as_log s) ≡ with_log (declared_decl t l d (heard c w) s)
+  decl_sim : (d : DeclShape) (c : Around) (w : Walked) (s : State) → IsReadyDecl d → HasFewItems (walk_decl t c d w) → declared_decl t k (probed_decl t c d w) (quiet w.variables) (as_log s) ≡ with_log (declared_decl t l d (heard c w) s)
   decl_sim (decl p specs names) c w s clean few = names_sim names c w s clean few
 
-  pub decls_sim : (ds : DeclShapes) (c : Around) (w : Walked) (s : State) → ArePlainDecls ds → HasFewItems (walk_decls t c ds w) → declared_all t k (probed_decls t c ds w) (quiet w.variables) (as_log s) ≡ with_log (declared_all t l ds (heard c w) s)
+  pub decls_sim : (ds : DeclShapes) (c : Around) (w : Walked) (s : State) → AreReadyDecls ds → HasFewItems (walk_decls t c ds w) → declared_all t k (probed_decls t c ds w) (quiet w.variables) (as_log s) ≡ with_log (declared_all t l ds (heard c w) s)
   decls_sim no_decls c w s clean few = refl
   decls_sim (more_decls d rest) c w s clean few =
       let v = walk_decl t c d w in

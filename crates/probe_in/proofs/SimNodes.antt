@@ -32,7 +32,8 @@ use Rattle.c_meaning.specs.Expressions.{Meaning, as_place, gives, operand, cast_
 use Rattle.c_meaning.proofs.Walks.{node_on, test_node_on, arm_on}
 use Rattle.probe_in.specs.Marks.{next_block, next_def, next_use, in_block, in_test}
 use Rattle.probe_in.specs.ProbedExpressions.{in_sites, probed_node, probed_form, probed_test, probed_arm, probed_nodes}
-use Rattle.probe_in.specs.Plain.{IsName, IsPlain, HasPlainParts, ArePlain, HasFewItems}
+use Rattle.probe_in.specs.Fitting.{HasFewItems, IsName}
+use Rattle.probe_in.proofs.Ready.{IsReady, HasReadyParts, AreReady}
 use Rattle.probe_in.proofs.Few.{few_before, few_blocks, few_tests, few_read, form_before, nodes_before, right_before}
 use Rattle.probe_in.proofs.Loops.{Follows}
 use Rattle.probe_in.proofs.Told.{as_log, with_log, sim_then, sim_turn, sim_if, sim_settled, sim_needed, logs_is, logs_sim, block_told, outcome_told, loaded_sim, variable_sim, field_sim, written_sim, stepped_sim, number_sim, literal_sim, noted_sim, built_in_sim}
@@ -148,7 +149,7 @@ module _ (t : TablesShape) (k l : Knot) (follows : Follows t k l) where
       sim_then _ _ _ _ (sim_needed _ _ (go s)) (λ x s.
       sim_then _ _ _ _ (ap (λ d. settled (of_one u d x) (as_log s)) (same_operand c Read a w) ∙ sim_settled (of_one u (operand a) x) s) (λ v s. refl)))
 
-  step_sim : (c : Around) (f : Bool) (u : Step) (a : NodeShape) (w : Walked) → IsPlain Changed a → HasFewItems (walk_node c Changed a w) → (m : ℕ) → ((s : State) → (meaning t k (probed_node c Changed a w)).place Changed (quiet m) (as_log s) ≡ with_log ((meaning t l a).place Changed (heard c w) s)) → (s : State) → step_value f u (probed_node c Changed a w) (meaning t k (probed_node c Changed a w)) (quiet m) (as_log s) ≡ with_log (step_value f u a (meaning t l a) (heard c w) s)
+  step_sim : (c : Around) (f : Bool) (u : Step) (a : NodeShape) (w : Walked) → IsReady Changed a → HasFewItems (walk_node c Changed a w) → (m : ℕ) → ((s : State) → (meaning t k (probed_node c Changed a w)).place Changed (quiet m) (as_log s) ≡ with_log ((meaning t l a).place Changed (heard c w) s)) → (s : State) → step_value f u (probed_node c Changed a w) (meaning t k (probed_node c Changed a w)) (quiet m) (as_log s) ≡ with_log (step_value f u a (meaning t l a) (heard c w) s)
   step_sim c f u a w clean few m go s =
       let i = changed_at c a w clean few in
       sim_then _ _ _ _ (go s) (λ q s.
@@ -164,10 +165,10 @@ module _ (t : TablesShape) (k l : Knot) (follows : Follows t k l) where
 
   mutual
     -- as a value
-    pub value_sim : (c : Around) (a : NodeShape) (w : Walked) → IsPlain Read a → HasFewItems (walk_node c Read a w) → (m : ℕ) (s : State) → (meaning t k (probed_node c Read a w)).value (quiet m) (as_log s) ≡ with_log ((meaning t l a).value (heard c w) s)
+    pub value_sim : (c : Around) (a : NodeShape) (w : Walked) → IsReady Read a → HasFewItems (walk_node c Read a w) → (m : ℕ) (s : State) → (meaning t k (probed_node c Read a w)).value (quiet m) (as_log s) ≡ with_log ((meaning t l a).value (heard c w) s)
     value_sim c (node p o n f) w clean few m s = form_sim c p o n f w clean.1 few m s
 
-    form_sim : (c : Around) (p o : Pos) (n : NoteShape) (f : ExprShape) (w : Walked) → HasPlainParts Read n f → HasFewItems (walk_node c Read (node p o n f) w) → (m : ℕ) (s : State) → (meaning t k (probed_node c Read (node p o n f) w)).value (quiet m) (as_log s) ≡ with_log ((form_meaning t l p n f).value (heard c w) s)
+    form_sim : (c : Around) (p o : Pos) (n : NoteShape) (f : ExprShape) (w : Walked) → HasReadyParts Read n f → HasFewItems (walk_node c Read (node p o n f) w) → (m : ℕ) (s : State) → (meaning t k (probed_node c Read (node p o n f) w)).value (quiet m) (as_log s) ≡ with_log ((form_meaning t l p n f).value (heard c w) s)
     form_sim c p o n (leaf (number x)) w clean few m s = sim_turn s _ _ (λ s. number_sim (number_of x) s)
     form_sim c p o n (leaf (char b)) w clean few m s = sim_turn s _ _ (λ s. refl)
     form_sim c p o n (leaf (str x)) w clean few m s = sim_turn s _ _ (λ s. literal_sim n x s)
@@ -227,19 +228,19 @@ module _ (t : TablesShape) (k l : Knot) (follows : Follows t k l) where
     form_sim c p o n (probe u a) w clean few m s = absurd clean
 
     -- at a test position
-    pub test_sim : (c : Around) (a : NodeShape) (w : Walked) → IsPlain Read a → HasFewItems (walk_test c a w) → (m : ℕ) (s : State) → tested (probed_test c a w) (meaning t k (probed_test c a w)) (quiet m) (as_log s) ≡ with_log (tested a (meaning t l a) (heard c w) s)
+    pub test_sim : (c : Around) (a : NodeShape) (w : Walked) → IsReady Read a → HasFewItems (walk_test c a w) → (m : ℕ) (s : State) → tested (probed_test c a w) (meaning t k (probed_test c a w)) (quiet m) (as_log s) ≡ with_log (tested a (meaning t l a) (heard c w) s)
     test_sim c (node p o n f) w clean few m s =
         let d = inside_test c f w in
         let v = with_test p f w in
         round_test t k (is_logical_form f) m c w (probed_node d Read (node p o n f) v) ((form_meaning t l p n f).value (heard d v) s) s (λ other. few_tests p f w other (few_before (node_on d Read (node p o n f) v) few)) (form_sim d p o n f v clean.1 few m s)
 
     -- an expression that is a block
-    pub arm_sim : (c : Around) (a : NodeShape) (w : Walked) → IsPlain Read a → HasFewItems (walk_arm c a w) → (m : ℕ) (s : State) → (meaning t k (probed_arm c a w)).value (quiet m) (as_log s) ≡ with_log (arm a (heard c w) s (meaning t l a).value)
+    pub arm_sim : (c : Around) (a : NodeShape) (w : Walked) → IsReady Read a → HasFewItems (walk_arm c a w) → (m : ℕ) (s : State) → (meaning t k (probed_arm c a w)).value (quiet m) (as_log s) ≡ with_log (arm a (heard c w) s (meaning t l a).value)
     arm_sim c (node p o n f) w clean few m s =
         let v = with_block p w in
         round_block t k m c w (probed_node c Read (node p o n f) v) s ((form_meaning t l p n f).value (heard c v)) (few_blocks p w (few_before (node_on c Read (node p o n f) v) few)) (λ s. form_sim c p o n f v clean.1 few m s)
 
-    arguments_sim : (c : Around) (es : NodeShapes) (ts : List TypeOf) (w : Walked) → ArePlain es → HasFewItems (walk_nodes c es w) → (m : ℕ) (s : State) → arguments t k (probed_nodes c es w) ts (quiet m) (as_log s) ≡ with_log (arguments t l es ts (heard c w) s)
+    arguments_sim : (c : Around) (es : NodeShapes) (ts : List TypeOf) (w : Walked) → AreReady es → HasFewItems (walk_nodes c es w) → (m : ℕ) (s : State) → arguments t k (probed_nodes c es w) ts (quiet m) (as_log s) ≡ with_log (arguments t l es ts (heard c w) s)
     arguments_sim c no_nodes ts w clean few m s = refl
     arguments_sim c (more_nodes a rest) ts w clean few m s =
         let v = walk_node c Read a w in
@@ -247,11 +248,11 @@ module _ (t : TablesShape) (k l : Knot) (follows : Follows t k l) where
         sim_then _ _ _ _ (arguments_sim c rest (drop 1 ts) v clean.1 few m s) (λ vs s. refl))
 
     -- as a place
-    pub place_sim : (c : Around) (r : Taken) (a : NodeShape) (w : Walked) → IsPlain r a → HasFewItems (walk_node c r a w) → (m : ℕ) (s : State) → (meaning t k (probed_node c r a w)).place r (quiet m) (as_log s) ≡ with_log ((meaning t l a).place r (heard c w) s)
+    pub place_sim : (c : Around) (r : Taken) (a : NodeShape) (w : Walked) → IsReady r a → HasFewItems (walk_node c r a w) → (m : ℕ) (s : State) → (meaning t k (probed_node c r a w)).place r (quiet m) (as_log s) ≡ with_log ((meaning t l a).place r (heard c w) s)
     place_sim c r (node p o n f) w clean few m s =
         ap (λ (z : Taken → First → State → Got Pointer). z r (quiet m) (as_log s)) (sited_place t k r p o n f (probed_form c r f (with_site c r p n f w)) w) ∙ inner_sim c r p n f w clean.1 few m s
 
-    inner_sim : (c : Around) (r : Taken) (p : Pos) (n : NoteShape) (f : ExprShape) (w : Walked) → HasPlainParts r n f → HasFewItems (walk_form c r f (with_site c r p n f w)) → (m : ℕ) (s : State) → (form_meaning t k p n (probed_form c r f (with_site c r p n f w))).place r (quiet m) (as_log s) ≡ with_log ((form_meaning t l p n f).place r (heard c w) s)
+    inner_sim : (c : Around) (r : Taken) (p : Pos) (n : NoteShape) (f : ExprShape) (w : Walked) → HasReadyParts r n f → HasFewItems (walk_form c r f (with_site c r p n f w)) → (m : ℕ) (s : State) → (form_meaning t k p n (probed_form c r f (with_site c r p n f w))).place r (quiet m) (as_log s) ≡ with_log ((form_meaning t l p n f).place r (heard c w) s)
     inner_sim c r p n (leaf (number x)) w clean few m s = refl
     inner_sim c r p n (leaf (char b)) w clean few m s = refl
     inner_sim c r p n (leaf (str x)) w clean few m s = refl

@@ -29,10 +29,11 @@ use Rattle.c_meaning.proofs.Walks.{node_on, test_node_on, loop_test_on, maybe_te
 use Rattle.probe_in.specs.Marks.{next_block, block_marks, constants_at, in_select}
 use Rattle.probe_in.specs.ProbedExpressions.{probed_node, probed_test, probed_maybe, probed_loop_test, probed_maybe_test, probed_step, probed_choice}
 use Rattle.probe_in.specs.ProbedStatements.{probed_stmt, probed_body, probed_compound, probed_items}
-use Rattle.probe_in.specs.Plain.{IsPlainMaybe, IsPlainStmt, IsPlainBody, IsPlainCompound, ArePlainItems, HasFewItems}
+use Rattle.probe_in.specs.Fitting.{HasFewItems}
+use Rattle.probe_in.proofs.Ready.{IsReadyMaybe, IsReadyStmt, IsReadyBody, IsReadyCompound, AreReadyItems}
 use Rattle.probe_in.proofs.Few.{few_before, few_blocks, few_decisions}
 use Rattle.probe_in.proofs.Told.{as_log, with_log, sim_then, sim_turn, sim_if, sim_needed, logs_is, logs_sim, block_told, outcome_told}
-use Rattle.probe_in.proofs.Loops.{HeardLoop, told_loop, probed_loop, IsPlainLoop, Follows}
+use Rattle.probe_in.proofs.Loops.{HeardLoop, told_loop, probed_loop, IsReadyLoop, Follows}
 use Rattle.probe_in.proofs.SimNodes.{round_right, value_sim, test_sim, arm_sim}
 use Rattle.probe_in.proofs.SelectConstants.{select_read}
 use Rattle.probe_in.proofs.SameCounts.{same_choosing, select_choosing, stmt_same, same_splits, same_cases, part_is}
@@ -79,7 +80,7 @@ choice_then number c w q (Gives v s) h g few e go =
     ∙ (ap (λ z. then_do (needed z) h) (logs_is (log_test (number v)) k (as_log s) (gives v) (omega arith) few) ∙ (ap (h v) (outcome_told c w (number v) s) ∙ go v (noted_outcome (heard c w) (number v) s)))
 choice_then number c w q (Stops why s) h g few e go = ap (λ z. then_do (needed (then_do z (choice_logged number (next_decision w)))) h) e
 
-select_is : (t : TablesShape) (k : Knot) (a e : NodeShape) (items : ItemShapes) (w : Walked) (i : First) (s : State) → choosing a ≡ choosing e → ArePlainItems items → (meaning t k (in_select (case_values (choosing e) items) w a)).value i s ≡ then_do (needed ((meaning t k a).value i s)) (choice_logged (case_number e items) (next_decision w))
+select_is : (t : TablesShape) (k : Knot) (a e : NodeShape) (items : ItemShapes) (w : Walked) (i : First) (s : State) → choosing a ≡ choosing e → AreReadyItems items → (meaning t k (in_select (case_values (choosing e) items) w a)).value i s ≡ then_do (needed ((meaning t k a).value i s)) (choice_logged (case_number e items) (next_decision w))
 select_is t k (node p o n f) e items w i s same clean =
     ap₂ (λ j cs. then_do (needed ((meaning t k (node p o n f)).value i s)) (λ v s. logs (log_test (chosen_among j v cs)) (decimal (next_decision w) ∷ []) s (gives v))) same
     (ap (λ j. select_constants j (constants_at p o (case_values (choosing e) items))) same ∙ select_read p o (choosing e) items clean)
@@ -119,21 +120,21 @@ for_probed t c f g a w =
     ap₂ h (sym (step_count c g v ∙ maybe_test_count c f w)) (sym (maybe_test_count c f w))
 
 module _ (t : TablesShape) (k l : Knot) (follows : Follows t k l) where
-  discarded_sim : (e : MaybeNode) (c : Around) (w : Walked) (n : ℕ) (s : State) → IsPlainMaybe e → HasFewItems (walk_maybe c e w) → discarded t k (probed_maybe c e w) (quiet n) (as_log s) ≡ with_log (discarded t l e (heard c w) s)
+  discarded_sim : (e : MaybeNode) (c : Around) (w : Walked) (n : ℕ) (s : State) → IsReadyMaybe e → HasFewItems (walk_maybe c e w) → discarded t k (probed_maybe c e w) (quiet n) (as_log s) ≡ with_log (discarded t l e (heard c w) s)
   discarded_sim no_node c w n s clean few = refl
   discarded_sim (one_node e) c w n s clean few = sim_then _ _ _ _ (value_sim t k l follows c e w clean few 0 s) (λ v s. refl)
 
-  step_sim : (e : MaybeNode) (c : Around) (w : Walked) (n : ℕ) (s : State) → IsPlainMaybe e → HasFewItems (walk_step c e w) → step_flow t k (probed_step c e w) (quiet n) (as_log s) ≡ with_log (step_flow t l e (heard c w) s)
+  step_sim : (e : MaybeNode) (c : Around) (w : Walked) (n : ℕ) (s : State) → IsReadyMaybe e → HasFewItems (walk_step c e w) → step_flow t k (probed_step c e w) (quiet n) (as_log s) ≡ with_log (step_flow t l e (heard c w) s)
   step_sim no_node c w n s clean few = refl
   step_sim (one_node e) c w n s clean few = sim_then _ _ _ _ (arm_sim t k l follows c e w clean few 0 s) (λ v s. refl)
 
-  loop_test_sim : (e : MaybeNode) (c : Around) (w : Walked) (n : ℕ) (s : State) → IsPlainMaybe e → HasFewItems (walk_maybe_test c e w) → loop_test t k (probed_maybe_test c e w) (quiet n) (as_log s) ≡ with_log (loop_test t l e (heard c w) s)
+  loop_test_sim : (e : MaybeNode) (c : Around) (w : Walked) (n : ℕ) (s : State) → IsReadyMaybe e → HasFewItems (walk_maybe_test c e w) → loop_test t k (probed_maybe_test c e w) (quiet n) (as_log s) ≡ with_log (loop_test t l e (heard c w) s)
   loop_test_sim no_node c w n s clean few = refl
   loop_test_sim (one_node e) c w n s clean few =
       let v = with_block (pos_of e) w in
       round_right t k 0 c w (probed_test c e v) s (tested e (meaning t l e) (heard c v)) (few_blocks (pos_of e) w (few_before (test_node_on c e v) few)) (λ s. test_sim t k l follows c e v clean few 0 s)
 
-  after_sim : (h : HeardLoop) → IsPlainLoop t h → (f : Flow) (s : State) → after_body t k (probed_loop t h) f (as_log s) ≡ with_log (after_body t l (told_loop h) f s)
+  after_sim : (h : HeardLoop) → IsReadyLoop t h → (f : Flow) (s : State) → after_body t k (probed_loop t h) f (as_log s) ≡ with_log (after_body t l (told_loop h) f s)
   after_sim h is Next s = sim_then _ _ _ _ (step_sim h.step h.around h.at_step h.at_step.variables s is.step is.few_steps) (λ f s. follows.again_follows h is s)
   after_sim h is Continue s = sim_then _ _ _ _ (step_sim h.step h.around h.at_step h.at_step.variables s is.step is.few_steps) (λ f s. follows.again_follows h is s)
   after_sim h is Break s = refl
@@ -142,14 +143,14 @@ module _ (t : TablesShape) (k l : Knot) (follows : Follows t k l) where
   -- ---- statements
 
   mutual
-    pub flow_sim : (b : Bool) (a : StmtShape) (c : Around) (w : Walked) (s : State) → IsPlainStmt a → HasFewItems (walk_stmt t c a (with_block_if b (pos_of_stmt a) w)) → flow t k b (probed_stmt t c b a w) (quiet w.variables) (as_log s) ≡ with_log (flow t l b a (heard c w) s)
+    pub flow_sim : (b : Bool) (a : StmtShape) (c : Around) (w : Walked) (s : State) → IsReadyStmt a → HasFewItems (walk_stmt t c a (with_block_if b (pos_of_stmt a) w)) → flow t k b (probed_stmt t c b a w) (quiet w.variables) (as_log s) ≡ with_log (flow t l b a (heard c w) s)
     flow_sim b (stmt p (m ∷ ms) q f) c w s clean few = absurd clean.0
     flow_sim b (stmt p [] q f) c w s clean few =
         let v = with_block_if b p w in
         mark_sim b p c w s _ _ (few_before (stmt_on t c (stmt p [] q f) v) few) (λ s. sim_turn s _ _ (λ s.
         ap (λ z. form_flow t k (probed_body t c f v) (quiet z) (as_log s)) (sym (block_count b p w)) ∙ form_sim f c v s clean.1 few))
 
-    form_sim : (f : FormShape) (c : Around) (w : Walked) (s : State) → IsPlainBody f → HasFewItems (walk_body t c f w) → form_flow t k (probed_body t c f w) (quiet w.variables) (as_log s) ≡ with_log (form_flow t l f (heard c w) s)
+    form_sim : (f : FormShape) (c : Around) (w : Walked) (s : State) → IsReadyBody f → HasFewItems (walk_body t c f w) → form_flow t k (probed_body t c f w) (quiet w.variables) (as_log s) ≡ with_log (form_flow t l f (heard c w) s)
     form_sim (compound d) c w s clean few = sim_then _ _ _ _ (compound_sim d c w (scope_opened s) clean few) (λ f s. refl)
     form_sim (simply e) c w s clean few = discarded_sim e c w w.variables s clean few
     form_sim (when e a) c w s clean few =
@@ -174,7 +175,7 @@ module _ (t : TablesShape) (k l : Knot) (follows : Follows t k l) where
         let u = walk_stmt t c a (with_block (pos_of_stmt a) w) in
         let few_e : HasFewItems (walk_loop_test c e u) = subst (λ z. HasFewItems (walk_loop_test c e z)) (part_is t c a w) few in
         let few_a : HasFewItems u = few_before (loop_test_on c e u) few_e in
-        let is : IsPlainLoop t (do_of t c a e w) = record { test = clean.1; body = clean.0; step = tt; few_tests = few_e; few_bodies = few_a; few_steps = few_before (part_on t c a w) (few_before (loop_test_on c e (walk_part t c a w)) few) } in
+        let is : IsReadyLoop t (do_of t c a e w) = record { test = clean.1; body = clean.0; step = tt; few_tests = few_e; few_bodies = few_a; few_steps = few_before (part_on t c a w) (few_before (loop_test_on c e (walk_part t c a w)) few) } in
         sim_then _ _ _ _ (flow_sim true a c w s clean.0 few_a) (λ f s. ap (λ z. after_body t k z f (as_log s)) (do_probed t c a e w) ∙ after_sim (do_of t c a e w) is f s)
     form_sim (for e f g a) c w s clean few =
         let u = walk_maybe c e w in
@@ -182,7 +183,7 @@ module _ (t : TablesShape) (k l : Knot) (follows : Follows t k l) where
         let x = walk_step c g v in
         let few_x = few_before (part_on t c a x) few in
         let few_v = few_before (step_on c g v) few_x in
-        let is : IsPlainLoop t (for_of c f g a u) = record { test = clean.1; body = clean.3; step = clean.2; few_tests = few_v; few_bodies = few_part t c a x few; few_steps = few_x } in
+        let is : IsReadyLoop t (for_of c f g a u) = record { test = clean.1; body = clean.3; step = clean.2; few_tests = few_v; few_bodies = few_part t c a x few; few_steps = few_x } in
         sim_then _ _ _ _ (discarded_sim e c w w.variables s clean.0 (few_before (maybe_test_on c f u) few_v)) (λ y s.
         ap (λ z. k.again z (as_log s)) (ap (λ z. for_loop t (probed_maybe_test c f u) (probed_step c g v) (probed_stmt t c true a x) (quiet z)) (sym (maybe_count c e w)) ∙ for_probed t c f g a u) ∙ follows.again_follows (for_of c f g a u) is s)
     form_sim (switch e items) c w s clean few =
@@ -202,13 +203,13 @@ module _ (t : TablesShape) (k l : Knot) (follows : Follows t k l) where
     form_sim (return no_node) c w s clean few = refl
     form_sim (return (one_node e)) c w s clean few = sim_then _ _ _ _ (sim_needed _ _ (value_sim t k l follows c e w clean few 0 s)) (λ v s. refl)
 
-    pub compound_sim : (d : CompoundShape) (c : Around) (w : Walked) (s : State) → IsPlainCompound d → HasFewItems (walk_compound t c d w) → compound_flow t k (probed_compound t c d w) (quiet w.variables) (as_log s) ≡ with_log (compound_flow t l d (heard c w) s)
+    pub compound_sim : (d : CompoundShape) (c : Around) (w : Walked) (s : State) → IsReadyCompound d → HasFewItems (walk_compound t c d w) → compound_flow t k (probed_compound t c d w) (quiet w.variables) (as_log s) ≡ with_log (compound_flow t l d (heard c w) s)
     compound_sim (braces p ds items) c w s clean few =
         let v = walk_decls t c ds w in
         sim_then _ _ _ _ (decls_sim t k l follows ds c w s clean.0 (few_before (items_on t c false items v) few)) (λ f s.
         ap (λ z. items_flow t k here false (probed_items t c false items v) z (as_log s)) (decls_after t c ds w) ∙ items_sim here false items c v s clean.1 few)
 
-    items_sim : (entry : Entry) (after : Bool) (items : ItemShapes) (c : Around) (w : Walked) (s : State) → ArePlainItems items → HasFewItems (walk_items t c after items w) → items_flow t k entry after (probed_items t c after items w) (quiet w.variables) (as_log s) ≡ with_log (items_flow t l entry after items (heard c w) s)
+    items_sim : (entry : Entry) (after : Bool) (items : ItemShapes) (c : Around) (w : Walked) (s : State) → AreReadyItems items → HasFewItems (walk_items t c after items w) → items_flow t k entry after (probed_items t c after items w) (quiet w.variables) (as_log s) ≡ with_log (items_flow t l entry after items (heard c w) s)
     items_sim entry after no_items c w s clean few = refl
     items_sim entry after (more_items labels a rest) c w s clean few =
         let b = after || is_labelled labels in
@@ -221,6 +222,6 @@ module _ (t : TablesShape) (k l : Knot) (follows : Follows t k l) where
 
   -- ---- loops
 
-  pub loop_sim : (h : HeardLoop) → IsPlainLoop t h → (s : State) → loop_turn t k (probed_loop t h) (as_log s) ≡ with_log (loop_turn t l (told_loop h) s)
+  pub loop_sim : (h : HeardLoop) → IsReadyLoop t h → (s : State) → loop_turn t k (probed_loop t h) (as_log s) ≡ with_log (loop_turn t l (told_loop h) s)
   loop_sim h is s = sim_then _ _ _ _ (loop_test_sim h.test h.around h.at_test h.at_test.variables s is.test is.few_tests) (λ x s.
       sim_if x _ _ (Gives Next (as_log s)) (Gives Next s) (sim_then _ _ _ _ (flow_sim true h.body h.around h.at_body s is.body is.few_bodies) (λ f s. after_sim h is f s)) refl)

@@ -22,9 +22,11 @@ use Rattle.c_meaning.specs.Runs.{literals_made, external_made, externals_made, a
 use Rattle.c_meaning.proofs.Walks.{externals_on}
 use Rattle.probe_in.specs.Marks.{defined_name}
 use Rattle.probe_in.specs.Instrumented.{defined_declarator, defined_declarators, probed_external, probed_externals, instrumented}
-use Rattle.probe_in.specs.Plain.{IsNamed, IsDefined, AreDefined, IsPlainExternal, ArePlainExternals, IsPlainUnit, HasFewItems}
+use Rattle.probe_in.specs.Fitting.{HasFewItems}
+use Rattle.probe_in.proofs.Ready.{IsNamed, IsDefined, AreDefined, IsReadyExternal, AreReadyExternals, IsReadyUnit}
 use Rattle.probe_in.specs.Simulation.{as_logged, all_walked, InstrumentedSimulates}
 use Rattle.probe_in.proofs.Few.{few_before, few_defs}
+use Rattle.probe_in.proofs.ReadyUnits.{unit_ready}
 use Rattle.probe_in.proofs.Told.{as_log, with_log, sim_then, sim_present, new_sim, make_sim, whole_sim}
 use Rattle.probe_in.proofs.Loops.{Follows}
 use Rattle.probe_in.proofs.SimStatements.{loop_sim}
@@ -32,7 +34,7 @@ use Rattle.probe_in.proofs.SimCalls.{defined_after, all_defined_before, external
 
 -- ---- the knot
 
-module _ (digest : Text) (P : Source) (clean : IsPlainUnit P.unit) (few : HasFewItems (all_walked P)) where
+module _ (digest : Text) (P : Source) (clean : IsReadyUnit P.unit) (few : HasFewItems (all_walked P)) where
   knots_follow : (n : ℕ) → Follows P.tables (knot (instrumented digest P) silent n) (knot P audible n)
   knots_follow zero = record { call_follows = λ f vs s. refl; again_follows = λ h is s. refl }
   knots_follow (suc n) =
@@ -74,18 +76,18 @@ names_sim t (more_declarators d rest) w s clean few =
     sim_then _ _ _ _ (name_sim t d w s clean.0 (few_before (all_defined_before t 0 rest v) few)) (λ f s.
     ap (λ z. file_names t (defined_declarators t 0 rest v) z (as_log s)) (defined_after t 0 d w) ∙ names_sim t rest v s clean.1 few)
 
-external_sim : (t : TablesShape) (e : ExternalShape) (w : Walked) (s : State) → IsPlainExternal e → HasFewItems (walk_external t e w) → external_made t (probed_external t e w) (quiet w.variables) (as_log s) ≡ with_log (external_made t e (heard (in_function 0) w) s)
+external_sim : (t : TablesShape) (e : ExternalShape) (w : Walked) (s : State) → IsReadyExternal e → HasFewItems (walk_external t e w) → external_made t (probed_external t e w) (quiet w.variables) (as_log s) ≡ with_log (external_made t e (heard (in_function 0) w) s)
 external_sim t (declared (decl p specs names)) w s clean few = names_sim t names w s clean few
 external_sim t (defined specs (declarator stars x d i) ms (braces p ds items)) w s clean few = refl
 
-externals_sim : (t : TablesShape) (es : List ExternalShape) (w : Walked) (s : State) → ArePlainExternals es → HasFewItems (walk_externals t es w) → externals_made t (probed_externals t es w) (quiet w.variables) (as_log s) ≡ with_log (externals_made t es (heard (in_function 0) w) s)
+externals_sim : (t : TablesShape) (es : List ExternalShape) (w : Walked) (s : State) → AreReadyExternals es → HasFewItems (walk_externals t es w) → externals_made t (probed_externals t es w) (quiet w.variables) (as_log s) ≡ with_log (externals_made t es (heard (in_function 0) w) s)
 externals_sim t [] w s clean few = refl
 externals_sim t (e ∷ rest) w s clean few =
     let v = walk_external t e w in
     sim_then _ _ _ _ (external_sim t e w s clean.0 (few_before (externals_on t rest v) few)) (λ f s.
     ap (λ z. externals_made t (probed_externals t rest v) z (as_log s)) (external_after t e w) ∙ externals_sim t rest v s clean.1 few)
 
-all_made_sim : (digest : Text) (P : Source) (s : State) → IsPlainUnit P.unit → HasFewItems (all_walked P) → all_made (instrumented digest P) silent (as_log s) ≡ with_log (all_made P audible s)
+all_made_sim : (digest : Text) (P : Source) (s : State) → IsReadyUnit P.unit → HasFewItems (all_walked P) → all_made (instrumented digest P) silent (as_log s) ≡ with_log (all_made P audible s)
 all_made_sim digest P s clean few = sim_then _ _ _ _ (literals_sim P.tables.literals s) (λ f s. externals_sim P.tables P.unit.externals no_items s clean few)
 
 -- ---- runs
@@ -98,11 +100,12 @@ outcome_sim t limit (Stops stop.Turns s) = refl
 outcome_sim t limit (Stops stop.Depth s) = refl
 outcome_sim t limit (Stops stop.Room s) = refl
 
-main_sim : (digest : Text) (P : Source) (s : State) → IsPlainUnit P.unit → HasFewItems (all_walked P) → main_called (instrumented digest P) silent (calls (instrumented digest P) silent) (as_log s) ≡ with_log (main_called P audible (calls P audible) s)
+main_sim : (digest : Text) (P : Source) (s : State) → IsReadyUnit P.unit → HasFewItems (all_walked P) → main_called (instrumented digest P) silent (calls (instrumented digest P) silent) (as_log s) ≡ with_log (main_called P audible (calls P audible) s)
 main_sim digest P s clean few =
     sim_then _ _ _ _ (all_made_sim digest P s clean few) (λ f s. sim_then _ _ _ _ (sim_present (main_number P.tables) s) (λ f s. (calls_follow digest P clean few).call_follows f [] s))
 
 -- a program with its probes prints, ends and faults as the program does, in as many turns, and logs the program's events
 pub simulates : InstrumentedSimulates
-simulates digest P clean few input limit =
+simulates digest P plain fit few input limit =
+    let clean = unit_ready P.unit plain fit in
     ap (outcome P.tables limit) (main_sim digest P (start input limit) clean few) ∙ outcome_sim P.tables limit (main_called P audible (calls P audible) (start input limit))

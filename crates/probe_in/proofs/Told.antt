@@ -34,7 +34,7 @@ use Rattle.c_meaning.specs.Builtins.{next_byte, put_byte, exits, built_in}
 use Rattle.c_meaning.specs.Expressions.{gives, number_value, literal_value, noted_value, written, stepped_from, log_block, log_test}
 use Rattle.c_meaning.specs.Declarations.{new_instance, make, mark_texts, name_marks, filled, filled_whole, scalar_written}
 use Rattle.probe_in.specs.Marks.{next_block, next_def, next_use, place_note, defined_name}
-use Rattle.probe_in.specs.Plain.{HasNoProbe, IsNamed}
+use Rattle.probe_in.proofs.Ready.{HasNoProbe, IsNamed}
 use Rattle.probe_in.proofs.ReadNumbers.{number_read}
 
 -- what the one did, the other logged

@@ -1,5 +1,5 @@
 -- A worked program with its probes, typed: it is the tree that typing makes of it, and nothing is complained of. All places are 1:1.
-use Rattle.std.proofs.Common.{◌≡◌, ℕ, pos, negsuc, ◌+◌, List, [], ◌∷◌, Option, Some, None, refl}
+use Rattle.std.proofs.Common.{◌≡◌, ℕ, ◌+◌, List, [], ◌∷◌, Option, Some, None, refl, arith}
 use Rattle.std.specs.Fmt.{digits}
 use Rattle.atac_base.specs.declared.place.Pos.{Pos}
 use Rattle.atac_base.specs.declared.place.IntKind.TheVariants.{Int}
@@ -10,10 +10,15 @@ use Rattle.c_syntax.specs.declared.tree.Named.{Named}
 use Rattle.c_syntax.specs.declared.tree.ProbeMark.{ProbeMark}
 use Rattle.c_syntax.specs.declared.tree.ProgramLine.{ProgramLine}
 use Rattle.c_syntax.specs.declared.tree.UnaryOp.TheVariants as front
-use Rattle.c_syntax.specs.Shape.{int, NoteShape, typed, number, name, unary, and, assign, Probing, block, test, used, def, simple, select, NodeShape, node, ExprShape, leaf, prefix, two, probe, no_nodes, more_nodes, one_node, no_lengths, SpecShapes, no_specs, more_specs, word, DeclShape, decl, no_decls, declarator, no_declarators, more_declarators, arrays, function, void, no_init, StmtShape, stmt, FormShape, simply, switch, return, CompoundShape, braces, ItemShapes, no_items, more_items, ExternalShape, defined, declared, case, UnitShape}
+use Rattle.c_syntax.specs.Shape.{int, NoteShape, typed, number, name, unary, and, assign, Probing, block, test, used, def, simple, select, NodeShape, node, ExprShape, leaf, prefix, two, probe, no_nodes, more_nodes, one_node, no_lengths, SpecShapes, no_specs, more_specs, word, decl, no_decls, declarator, no_declarators, more_declarators, arrays, function, void, no_init, StmtShape, stmt, FormShape, simply, switch, return, braces, no_items, more_items, defined, declared, case, UnitShape}
 use Rattle.c_tree.specs.Tables.{TablesShape}
 use Rattle.c_tree.specs.Units.{typed_unit, complaints}
-use Rattle.probe_in.specs.Instrumented.{instrumented_unit}
+use Rattle.c_meaning.specs.Calls.{Source}
+use Rattle.probe_in.specs.Instrumented.{instrumented_unit, instrumented}
+use Rattle.probe_in.specs.Fitting.{IsFitUnit, HasFewItems}
+use Rattle.probe_in.specs.Simulation.{all_walked, Simulates}
+use Rattle.c_marks.specs.Owned.{owned_in}
+use Rattle.probe_in.proofs.Simulation.{simulates}
 
 abbrev p : Pos
 p = record { line = 1; col = 1 }
@@ -63,8 +68,8 @@ unit line m ms chosen one last = record {
   pos = p;
   line = line;
   externals = declared (decl p ints (more_declarators (declarator [] (named a_text m) (arrays no_lengths) no_init) no_declarators))
-    ∷ defined ints (declarator [] (named main_text None) (function void) no_init) ms
-    (braces p no_decls (more_items [] (s [] (switch chosen (more_items (case p minus_two ∷ []) one no_items))) (more_items [] last no_items))) ∷ [];
+      ∷ defined ints (declarator [] (named main_text None) (function void) no_init) ms
+      (braces p no_decls (more_items [] (s [] (switch chosen (more_items (case p minus_two ∷ []) one no_items))) (more_items [] last no_items))) ∷ [];
   last = p;
 }
 
@@ -105,3 +110,22 @@ is_typed = refl
 is_clean : complaints probed_unit ≡ []
 unfolding pattern value_of fitted unary_result
 is_clean = refl
+
+-- ---- what holds of it
+
+abbrev program : Source
+program = record { unit = plain_unit; tables = tables }
+
+is_fit : IsFitUnit plain_unit
+is_fit = ((tt, tt), ((tt, (tt, (tt, ((tt, tt), (((tt, (tt, tt)), tt), (tt, ((refl, tt), (tt, tt))), tt)), (tt, (tt, ((tt, tt), (tt, tt))), tt)))), tt))
+
+few : HasFewItems (all_walked program)
+few = record { blocks = omega arith; decisions = omega arith; defs = omega arith; uses = omega arith }
+
+-- with its probes it does what it does without
+simulated : Simulates (instrumented digest program) program
+simulated = simulates digest program refl is_fit few
+
+-- and each of its uses is that of the decision round it
+owned : owned_in probed_unit ≡ (1, 1) ∷ (2, 2) ∷ (3, 3) ∷ []
+owned = refl

@@ -58,7 +58,6 @@ probed_externals t (e ∷ rest) w = probed_external t e w ∷ probed_externals t
 -- the line stands first, at 1:1
 abbrev pub instrumented_unit : Text → TablesShape → UnitShape → UnitShape
 instrumented_unit digest t u = record u {
-  pos = first_place;
   line = Some (record { pos = first_place; digest = digest });
   externals = probed_externals t u.externals no_items;
 }

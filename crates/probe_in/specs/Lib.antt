@@ -2,5 +2,6 @@ pub mod Marks
 pub mod ProbedExpressions
 pub mod ProbedStatements
 pub mod Instrumented
-pub mod Plain
+pub mod Fitting
 pub mod Simulation
+pub mod Owning

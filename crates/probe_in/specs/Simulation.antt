@@ -1,13 +1,14 @@
 -- A program with its probes prints what the program prints, ends or faults as it does, in as many turns, and logs what it does.
-use Rattle.std.specs.Prelude.{◌≡◌, ℕ, List, []}
+use Rattle.std.specs.Prelude.{◌≡◌, ℕ, List, [], None}
 use Rattle.c_syntax.specs.declared.text.Text.{Text}
 use Rattle.c_items.specs.Walked.{Walked}
 use Rattle.c_items.specs.Units.{walk_externals, no_items}
+use Rattle.c_marks.specs.Marked.{unit_mark}
 use Rattle.c_meaning.specs.Calls.{Source}
 use Rattle.c_meaning.specs.Deeds.{told}
 use Rattle.c_meaning.specs.Runs.{Outcome, run, run_heard}
 use Rattle.probe_in.specs.Instrumented.{instrumented}
-use Rattle.probe_in.specs.Plain.{IsPlainUnit, HasFewItems}
+use Rattle.probe_in.specs.Fitting.{IsFitUnit, HasFewItems}
 
 -- the events that are told of a run, as a log
 abbrev pub as_logged : Outcome → Outcome
@@ -20,6 +21,10 @@ all_walked P = walk_externals P.tables P.unit.externals no_items
 abbrev pub Simulates : Source → Source → Type 0
 Simulates Q P = (input : List ℕ) (limit : ℕ) → run Q input limit ≡ as_logged (run_heard P input limit)
 
--- so it is of every plain program whose items have numbers that probes may have
+-- neither a probe nor a program line stands in it
+abbrev pub IsPlain : Source → Type 0
+IsPlain P = unit_mark P.unit ≡ None
+
+-- so it is of every plain program in which each part fits, and whose items have numbers that probes may have
 abbrev pub InstrumentedSimulates : Type 0
-InstrumentedSimulates = (digest : Text) (P : Source) → IsPlainUnit P.unit → HasFewItems (all_walked P) → Simulates (instrumented digest P) P
+InstrumentedSimulates = (digest : Text) (P : Source) → IsPlain P → IsFitUnit P.unit → HasFewItems (all_walked P) → Simulates (instrumented digest P) P
