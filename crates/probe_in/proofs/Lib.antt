@@ -4,6 +4,7 @@ mod ReadyUnits
 mod OwnPlain
 mod OwnProbed
 pub mod OwnUnits
+mod Grows
 mod Told
 mod Few
 mod Rounds
