@@ -66,7 +66,7 @@ entity_grows p (Some (entity.Function n)) s = complain_grows 30 s.at p s
 entity_grows p (Some (entity.Builtin b)) s = complain_grows 30 s.at p s
 entity_grows p None s = complain_grows 30 s.at p s
 
-mention_grows : (x : Text) (k : TypeOf) (ks : List TypeOf) (n : Option ℕ) (s : State) → Grows s (numbered_or n s (pushed_function x k ks s)).state
+pub mention_grows : (x : Text) (k : TypeOf) (ks : List TypeOf) (n : Option ℕ) (s : State) → Grows s (numbered_or n s (pushed_function x k ks s)).state
 mention_grows x k ks (Some n) s = as_it_was s
 mention_grows x k ks None s = as_it_was s
 

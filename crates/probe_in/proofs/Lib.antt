@@ -5,6 +5,7 @@ mod OwnPlain
 mod OwnProbed
 pub mod OwnUnits
 mod Grows
+mod GrowsUnits
 mod Told
 mod Few
 mod Rounds
