@@ -6,6 +6,7 @@ mod OwnProbed
 pub mod OwnUnits
 mod Grows
 mod GrowsUnits
+mod Moved
 mod Told
 mod Few
 mod Rounds

@@ -1,0 +1,251 @@
+-- Typing depends neither on how many tokens stand before, nor on which probes were seen, nor on what was complained of before: the parts.
+use Rattle.std.proofs.Common.{◌≡◌, ℕ, suc, ℤ, ◌+◌, ◌≤◌, List, [], ◌∷◌, ◌++◌, length, Option, Some, None, Bool, true, false, ◌∙◌, refl, sym, ap, ap₂, subst, arith, length-append}
+use Rattle.std.specs.Prelude.{pos, nat_eq, not, min, ◌-◌, ◌^◌, ◌&&◌, if◌then◌else◌}
+use Rattle.atac_base.specs.declared.place.Pos.{Pos}
+use Rattle.c_syntax.specs.declared.text.Text.{Text}
+use Rattle.c_syntax.specs.declared.tree.Named.{Named}
+use Rattle.c_syntax.specs.declared.tree.UnaryOp.{UnaryOp}
+use Rattle.c_syntax.specs.Shape.{TypeOf, Infix, plain, and, or, assign, comma, Access, NodeShape, node, ExprShape}
+use Rattle.c_kinds.specs.Verdicts.{fits_type, cast_type, logical_type}
+use Rattle.c_values.specs.declared.constants.Constant.{Constant}
+use Rattle.c_values.specs.declared.constants.Constant.TheVariants.{Literal}
+use Rattle.c_scopes.specs.Scoping.{find_here, find}
+use Rattle.c_tree.specs.Tables.{FunctionShape, VariableShape, FieldShape}
+use Rattle.c_tree.specs.Builtins.{builtin_name, builtin_result, builtin_params}
+use Rattle.c_tree.specs.declared.meaning.Complaint.{Complaint}
+use Rattle.c_tree.specs.declared.meaning.Entity.{Entity}
+use Rattle.c_tree.specs.declared.meaning.Entity.TheVariants as entity
+use Rattle.c_tree.specs.declared.meaning.Tag.{Tag}
+use Rattle.c_tree.specs.declared.meaning.Tag.TheVariants as tag
+use Rattle.c_tree.specs.State.{Seen, State, step, steps, complain, demand, counts, is_set, is_clean, row, function_number, numbered_or, pushed_function}
+use Rattle.c_tree.specs.Rulings.{Ruled, allowed, unsettled, refused, by, rule, kind_at, of_kind, whole, sized}
+use Rattle.c_tree.specs.Sorts.{Sort, naming, a_value, Typing, Outcome, Formed, TypedNode, formed, noted, note_of, node_sort, cleared, changeable}
+use Rattle.c_tree.specs.Operators.{named_variable, named_parameter, named_entity, typed_string, string_type, unary_rule, step_rule, plain_rule, assigned_rule, choice_rule, element_rule, held_field, Called, called_entity, called_builtin, Given, fit_all, judged, call_of, typed_call, place_rule, typed_unary, typed_step, typed_size, typed_type_size, typed_cast, typed_plain, left_side, typed_infix, typed_choice, typed_index, typed_field, holder}
+use Rattle.c_tree.specs.Parts.{Opened, known_structure, listed_structure, opened, begun_at, closed, within, outside, field_state, Valued, next_value, declared_at, declare, enumeration, known_enumeration, listed_enumeration}
+
+abbrev pub moved : ℕ → Seen → List Complaint → State → State
+moved a seen cs s = record s { at = a; seen = seen; complaints = cs }
+
+module _ (n m : ℕ) (seen : Seen) where
+  -- the second state is the first one moved; n complaints of the first run stand before, m of the second
+  pub record Alike (s t : State) : Type 0 where
+    pub at : ℕ
+    pub complaints : List Complaint
+    pub is : t ≡ moved at seen complaints s
+    pub count : length s.complaints + m ≡ length complaints + n
+
+  abbrev pub Counts : State → List Complaint → Type 0
+  Counts s cs = length s.complaints + m ≡ length cs + n
+
+  pub moves : (s : State) (a : ℕ) (cs : List Complaint) → Counts s cs → Alike s (moved a seen cs s)
+  moves s a cs count = record { at = a; complaints = cs; is = refl; count = count }
+
+  -- what holds of each moved state
+  pub on_moved : {s t : State} (P : State → Type 0) → Alike s t → ((a : ℕ) (cs : List Complaint) → Counts s cs → P (moved a seen cs s)) → P t
+  on_moved P al go = subst P (sym al.is) (go al.at al.complaints al.count)
+
+  pub clean_alike : (s t u v : State) → Alike s u → Alike t v → is_clean u v ≡ is_clean s t
+  clean_alike s t u v p q = on_moved (λ z. is_clean z v ≡ is_clean s t) p (λ a cs i. on_moved (λ z. is_clean (moved a seen cs s) z ≡ is_clean s t) q (λ b ds j. same (length s.complaints) (length t.complaints) (length cs) (length ds) i j))
+    where
+      same : (a b c d : ℕ) → a + m ≡ c + n → b + m ≡ d + n → nat_eq c d ≡ nat_eq a b
+      same a b c d i j = grind arith
+
+  -- ---- complaints
+
+  pub steps_alike : (k : ℕ) {s t : State} → Alike s t → Alike (steps k s) (steps k t)
+  steps_alike k {s} {t} al = record { at = min (al.at + k) (2 ^ 32 - 1); complaints = al.complaints; is = ap (steps k) al.is; count = al.count }
+
+  pub complain_alike : (k token token' : ℕ) (p q : Pos) {s t : State} → Alike s t → Alike (complain k token p s) (complain k token' q t)
+  complain_alike k token token' p q {s} {t} al = record {
+    at = al.at;
+    complaints = al.complaints ++ record { token = token'; number = k; pos = q } ∷ [];
+    is = ap (complain k token' q) al.is;
+    count = omega (arith, al.count, length-append s.complaints (record { token = token; number = k; pos = p } ∷ []), length-append al.complaints (record { token = token'; number = k; pos = q } ∷ []));
+  }
+
+  pub demand_alike : (b : Bool) (k token token' : ℕ) (p : Pos) {s t : State} → Alike s t → Alike (demand b k token p s) (demand b k token' p t)
+  demand_alike true k token token' p al = al
+  demand_alike false k token token' p al = complain_alike k token token' p p al
+
+  pub rule_alike : (r : Ruled) (token token' : ℕ) (p q : Pos) {s t : State} → Alike s t → Alike (rule r token p s) (rule r token' q t)
+  rule_alike (allowed k) token token' p q al = al
+  rule_alike unsettled token token' p q al = al
+  rule_alike (refused k) token token' p q al = complain_alike k token token' p q al
+
+  -- ---- what comes of an expression
+
+  pub record AlikeOutcome (x y : Outcome) : Type 0 where
+    pub typing : y.typing ≡ x.typing
+    pub state : Alike x.state y.state
+
+  pub record AlikeFormed (x y : Formed) : Type 0 where
+    pub form : y.form ≡ x.form
+    pub typing : y.typing ≡ x.typing
+    pub state : Alike x.state y.state
+
+  pub record AlikeNode (x y : TypedNode) : Type 0 where
+    pub node : y.node ≡ x.node
+    pub sort : y.sort ≡ x.sort
+    pub state : Alike x.state y.state
+
+  pub formed_alike : (f g : ExprShape) (x y : Outcome) → g ≡ f → AlikeOutcome x y → AlikeFormed (formed f x) (formed g y)
+  formed_alike f g x y e al = record { form = e; typing = al.typing; state = al.state }
+
+  pub noted_alike : (p o : Pos) (s t : State) (x y : Formed) → Alike s t → AlikeFormed x y → AlikeNode (noted p o s x) (noted p o t y)
+  noted_alike p o s t x y begun al =
+      let sort : node_sort t y ≡ node_sort s x = ap (λ b. cleared b y.typing.sort) (clean_alike s x.state t y.state begun al.state) ∙ ap (λ (z : Typing). cleared (is_clean s x.state) z.sort) al.typing in
+      record {
+        node = ap (λ (z : Sort). node p o (note_of z.kind y.typing.sort.constant y.typing.names y.typing.valued) y.form) sort
+            ∙ (ap (λ (z : Typing). node p o (note_of (node_sort s x).kind z.sort.constant z.names z.valued) y.form) al.typing ∙ ap (λ z. node p o (note_of (node_sort s x).kind x.typing.sort.constant x.typing.names x.typing.valued) z) al.form);
+        sort = sort;
+        state = al.state;
+      }
+
+  -- ---- names, calls and operators
+
+  variable_alike : (p : Pos) (k : ℕ) (v : Option VariableShape) {s t : State} → Alike s t → AlikeOutcome (named_variable p k v s) (named_variable p k v t)
+  variable_alike p k None {s} {t} al = record { typing = refl; state = steps_alike 1 (complain_alike 30 s.at t.at p p al) }
+  variable_alike p k (Some v) al = record { typing = refl; state = steps_alike 1 al }
+
+  parameter_alike : (p : Pos) (k : Option TypeOf) {s t : State} → Alike s t → AlikeOutcome (named_parameter p k s) (named_parameter p k t)
+  parameter_alike p None {s} {t} al = record { typing = refl; state = steps_alike 1 (complain_alike 30 s.at t.at p p al) }
+  parameter_alike p (Some k) al = record { typing = refl; state = steps_alike 1 al }
+
+  entity_moved : (p : Pos) (e : Option Entity) (s : State) (a : ℕ) (cs : List Complaint) → Counts s cs → AlikeOutcome (named_entity p e s) (named_entity p e (moved a seen cs s))
+  entity_moved p (Some (entity.Variable k)) s a cs i = variable_alike p k (row s.tables.variables k) (moves s a cs i)
+  entity_moved p (Some (entity.Parameter k)) s a cs i = parameter_alike p (row s.params k) (moves s a cs i)
+  entity_moved p (Some (entity.Constant v)) s a cs i = record { typing = refl; state = steps_alike 1 (moves s a cs i) }
+  entity_moved p (Some entity.Unknown) s a cs i = record { typing = refl; state = steps_alike 1 (moves s a cs i) }
+  entity_moved p (Some (entity.Function k)) s a cs i = record { typing = refl; state = steps_alike 1 (complain_alike 30 s.at a p p (moves s a cs i)) }
+  entity_moved p (Some (entity.Builtin b)) s a cs i = record { typing = refl; state = steps_alike 1 (complain_alike 30 s.at a p p (moves s a cs i)) }
+  entity_moved p None s a cs i = record { typing = refl; state = steps_alike 1 (complain_alike 30 s.at a p p (moves s a cs i)) }
+
+  pub name_alike : (p : Pos) (x : Text) {s t : State} → Alike s t → AlikeOutcome (named_entity p (find x s.names) s) (named_entity p (find x t.names) t)
+  name_alike p x {s} al = on_moved (λ z. AlikeOutcome (named_entity p (find x s.names) s) (named_entity p (find x z.names) z)) al (λ a cs i. entity_moved p (find x s.names) s a cs i)
+
+  pub record AlikeCalled (x y : Called) : Type 0 where
+    pub function : y.function ≡ x.function
+    pub state : Alike x.state y.state
+
+  mention_moved : (x : Text) (k : TypeOf) (ks : List TypeOf) (o : Option ℕ) (s : State) (a : ℕ) (cs : List Complaint) → Counts s cs → AlikeCalled (called_builtin (numbered_or o s (pushed_function x k ks s))) (called_builtin (numbered_or o (moved a seen cs s) (pushed_function x k ks (moved a seen cs s))))
+  mention_moved x k ks (Some j) s a cs i = record { function = refl; state = moves s a cs i }
+  mention_moved x k ks None s a cs i = record { function = refl; state = record { at = a; complaints = cs; is = refl; count = i } }
+
+  called_moved : (p : Pos) (e : Option Entity) (s : State) (a : ℕ) (cs : List Complaint) → Counts s cs → AlikeCalled (called_entity p e s) (called_entity p e (moved a seen cs s))
+  called_moved p (Some (entity.Function k)) s a cs i = record { function = refl; state = demand_alike (counts s.known k) 40 s.at a p (moves s a cs i) }
+  called_moved p (Some (entity.Builtin b)) s a cs i = mention_moved (builtin_name b) (builtin_result b) (builtin_params b) (function_number (builtin_name b) (builtin_result b) (builtin_params b) s.tables.functions) s a cs i
+  called_moved p (Some entity.Unknown) s a cs i = record { function = refl; state = moves s a cs i }
+  called_moved p (Some (entity.Variable k)) s a cs i = record { function = refl; state = complain_alike 30 s.at a p p (moves s a cs i) }
+  called_moved p (Some (entity.Parameter k)) s a cs i = record { function = refl; state = complain_alike 30 s.at a p p (moves s a cs i) }
+  called_moved p (Some (entity.Constant v)) s a cs i = record { function = refl; state = complain_alike 30 s.at a p p (moves s a cs i) }
+  called_moved p None s a cs i = record { function = refl; state = complain_alike 30 s.at a p p (moves s a cs i) }
+
+  pub called_alike : (p : Pos) (x : Text) {s t : State} → Alike s t → AlikeCalled (called_entity p (find x s.names) s) (called_entity p (find x t.names) t)
+  called_alike p x {s} al = on_moved (λ z. AlikeCalled (called_entity p (find x s.names) s) (called_entity p (find x z.names) z)) al (λ a cs i. called_moved p (find x s.names) s a cs i)
+
+  -- ---- arguments
+
+  -- the same but for their tokens
+  abbrev pub AlikeGiven : List Given → List Given → Type 0
+  AlikeGiven [] [] = Unit {0}
+  AlikeGiven [] (h ∷ hs) = ⊥
+  AlikeGiven (g ∷ gs) [] = ⊥
+  AlikeGiven (g ∷ gs) (h ∷ hs) = (h.kind ≡ g.kind) × (h.null ≡ g.null) × AlikeGiven gs hs
+
+  pub given_then : (gs hs : List Given) (g h : Given) → AlikeGiven gs hs → h.kind ≡ g.kind → h.null ≡ g.null → AlikeGiven (gs ++ g ∷ []) (hs ++ h ∷ [])
+  given_then [] [] g h al kind null = (kind, null, tt)
+  given_then [] (y ∷ hs) g h al kind null = absurd al
+  given_then (x ∷ gs) [] g h al kind null = absurd al
+  given_then (x ∷ gs) (y ∷ hs) g h al kind null = (al.0, al.1, given_then gs hs g h al.2 kind null)
+
+  given_length : (gs hs : List Given) → AlikeGiven gs hs → length hs ≡ length gs
+  given_length [] [] al = refl
+  given_length [] (y ∷ hs) al = absurd al
+  given_length (x ∷ gs) [] al = absurd al
+  given_length (x ∷ gs) (y ∷ hs) al = ap suc (given_length gs hs al.2)
+
+  fit_alike : (ks : List TypeOf) (gs hs : List Given) {s t : State} → AlikeGiven gs hs → Alike s t → Alike (fit_all ks gs s) (fit_all ks hs t)
+  fit_alike [] gs hs same al = al
+  fit_alike (k ∷ ks) [] [] same al = al
+  fit_alike (k ∷ ks) [] (h ∷ hs) same al = absurd same
+  fit_alike (k ∷ ks) (g ∷ gs) [] same al = absurd same
+  fit_alike (k ∷ ks) (g ∷ gs) (h ∷ hs) {s} {t} same al =
+      fit_alike ks gs hs same.2 (subst (λ r. Alike (rule (by 33 (fits_type (Some k) g.kind g.null)) g.token g.pos s) (rule r h.token h.pos t)) (ap₂ (λ y z. by 33 (fits_type (Some k) y z)) (sym same.0) (sym same.1)) (rule_alike (by 33 (fits_type (Some k) g.kind g.null)) g.token h.token g.pos h.pos al))
+
+  pick_alike : (b : Bool) {s t u v : State} → Alike s t → Alike u v → Alike (if b then s else u) (if b then t else v)
+  pick_alike true p q = p
+  pick_alike false p q = q
+
+  judged_alike : (token token' : ℕ) (p : Pos) (clean : Bool) (ks : List TypeOf) (gs hs : List Given) {s t : State} → AlikeGiven gs hs → Alike s t → Alike (judged token p clean ks gs s) (judged token' p clean ks hs t)
+  judged_alike token token' p clean ks gs hs {s} {t} same al =
+      subst (λ j. Alike (judged token p clean ks gs s) (if clean && not (nat_eq (length ks) j) then complain 34 token' p t else fit_all ks hs t)) (sym (given_length gs hs same))
+      (pick_alike (clean && not (nat_eq (length ks) (length gs))) (complain_alike 34 token token' p p al) (fit_alike ks gs hs same al))
+
+  call_alike : (p : Pos) (token token' : ℕ) (clean : Bool) (k : ℕ) (f : Option FunctionShape) (gs hs : List Given) {s t : State} → AlikeGiven gs hs → Alike s t → AlikeOutcome (call_of p token clean k f gs s) (call_of p token' clean k f hs t)
+  call_alike p token token' clean k None gs hs same al = record { typing = refl; state = steps_alike 1 al }
+  call_alike p token token' clean k (Some f) gs hs same al = record { typing = refl; state = steps_alike 1 (judged_alike token token' p clean f.params gs hs same al) }
+
+  pub typed_call_alike : (p : Pos) (token token' : ℕ) (clean : Bool) (f : Option ℕ) (gs hs : List Given) {s t : State} → AlikeGiven gs hs → Alike s t → AlikeOutcome (typed_call p token clean f gs s) (typed_call p token' clean f hs t)
+  typed_call_alike p token token' clean None gs hs same al = record { typing = refl; state = steps_alike 1 al }
+  typed_call_alike p token token' clean (Some k) gs hs {s} same al =
+      on_moved (λ z. AlikeOutcome (call_of p token clean k (row s.tables.functions k) gs s) (call_of p token' clean k (row z.tables.functions k) hs z)) al (λ a cs i. call_alike p token token' clean k (row s.tables.functions k) gs hs same (moves s a cs i))
+
+  -- ---- operators
+
+  literal_alike : (b : Bool) (x : Text) (s : State) (a : ℕ) (cs : List Complaint) → Counts s cs → (let f : State → State = λ z. record z { tables = record z.tables { literals = z.tables.literals ++ x ∷ [] } } in Alike (if b then s else f s) (if b then moved a seen cs s else f (moved a seen cs s)))
+  literal_alike true x s a cs i = moves s a cs i
+  literal_alike false x s a cs i = record { at = a; complaints = cs; is = refl; count = i }
+
+  pub string_alike : (p : Pos) (x : Text) {s t : State} → Alike s t → AlikeOutcome (typed_string p x s) (typed_string p x t)
+  string_alike p x {s} al = on_moved (λ z. AlikeOutcome (typed_string p x s) (typed_string p x z)) al (λ a cs i.
+      record { typing = literal_typing s.quiet x s; state = steps_alike 1 (rule_alike (whole s.rooms (string_type x)) s.at a p p (literal_alike s.quiet x s a cs i)) })
+    where
+      literal_typing : (b : Bool) (x : Text) (s : State) → naming (a_value (kind_at (whole s.rooms (string_type x))) Literal) (if b then None else Some (length s.tables.literals + 1)) ≡ naming (a_value (kind_at (whole s.rooms (string_type x))) Literal) (if b then None else Some (length s.tables.literals + 1))
+      literal_typing b x s = refl
+
+  pub unary_alike : (token token' : ℕ) (o : Pos) (head head' : ℕ) (p : Pos) (u : UnaryOp) (a b : Sort) {s t : State} → b ≡ a → Alike s t → AlikeOutcome (typed_unary token o head p u a s) (typed_unary token' o head' p u b t)
+  unary_alike token token' o head head' p u a b {s} {t} same al = subst (λ z. AlikeOutcome (typed_unary token o head p u a s) (typed_unary token' o head' p u z t)) (sym same)
+      (on_moved (λ z. AlikeOutcome (typed_unary token o head p u a s) (typed_unary token' o head' p u a z)) al (λ n cs i.
+      record { typing = refl; state = rule_alike (unary_rule u s.rooms a) token token' o o (rule_alike (place_rule u a) head head' p p (moves s n cs i)) }))
+
+  pub step_alike : (token token' : ℕ) (o : Pos) (head head' : ℕ) (p : Pos) (a b : Sort) {s t : State} → b ≡ a → Alike s t → AlikeOutcome (typed_step token o head p a s) (typed_step token' o head' p b t)
+  step_alike token token' o head head' p a b {s} {t} same al = subst (λ z. AlikeOutcome (typed_step token o head p a s) (typed_step token' o head' p z t)) (sym same)
+      (on_moved (λ z. AlikeOutcome (typed_step token o head p a s) (typed_step token' o head' p a z)) al (λ n cs i.
+      record { typing = refl; state = rule_alike (step_rule s.rooms a) token token' o o (rule_alike (changeable a) head head' p p (moves s n cs i)) }))
+
+  pub size_alike : (token token' : ℕ) (o : Pos) (k l : Option TypeOf) {s t : State} → l ≡ k → Alike s t → AlikeOutcome (typed_size token o k s) (typed_size token' o l t)
+  size_alike token token' o k l {s} {t} same al = subst (λ z. AlikeOutcome (typed_size token o k s) (typed_size token' o z t)) (sym same)
+      (on_moved (λ z. AlikeOutcome (typed_size token o k s) (typed_size token' o k z)) al (λ n cs i. record { typing = refl; state = rule_alike (of_kind k (sized s.rooms)) token token' o o (moves s n cs i) }))
+
+  pub type_size_alike : (token token' : ℕ) (o : Pos) (k l : Option TypeOf) {s t : State} → l ≡ k → Alike s t → AlikeOutcome (typed_type_size token o k s) (typed_type_size token' o l t)
+  type_size_alike token token' o k l {s} {t} same al = subst (λ z. AlikeOutcome (typed_type_size token o k s) (typed_type_size token' o z t)) (sym same)
+      (on_moved (λ z. AlikeOutcome (typed_type_size token o k s) (typed_type_size token' o k z)) al (λ n cs i. record { typing = refl; state = rule_alike (of_kind k (whole s.rooms)) token token' o o (steps_alike 1 (moves s n cs i)) }))
+
+  pub cast_alike : (token token' : ℕ) (o : Pos) (k l : Option TypeOf) (a b : Sort) {s t : State} → l ≡ k → b ≡ a → Alike s t → AlikeOutcome (typed_cast token o k a s) (typed_cast token' o l b t)
+  cast_alike token token' o k l a b {s} {t} kind same al = subst (λ y. AlikeOutcome (typed_cast token o k a s) (typed_cast token' o y b t)) (sym kind) (subst (λ z. AlikeOutcome (typed_cast token o k a s) (typed_cast token' o k z t)) (sym same)
+      (record { typing = refl; state = rule_alike (by 33 (cast_type k a.kind)) token token' o o al }))
+
+  infix_moved : (token token' : ℕ) (o : Pos) (head head' : ℕ) (p : Pos) (u : Infix) (a b : Sort) (s : State) (n' : ℕ) (cs : List Complaint) → Counts s cs → AlikeOutcome (typed_infix token o head p u a b s) (typed_infix token' o head' p u a b (moved n' seen cs s))
+  infix_moved token token' o head head' p (plain u) a b s n' cs i = record { typing = refl; state = rule_alike (plain_rule u s.rooms a b) token token' o o (moves s n' cs i) }
+  infix_moved token token' o head head' p and a b s n' cs i = record { typing = refl; state = rule_alike (by 33 (logical_type a.kind b.kind)) token token' o o (moves s n' cs i) }
+  infix_moved token token' o head head' p or a b s n' cs i = record { typing = refl; state = rule_alike (by 33 (logical_type a.kind b.kind)) token token' o o (moves s n' cs i) }
+  infix_moved token token' o head head' p (assign u) a b s n' cs i = record { typing = refl; state = rule_alike (assigned_rule u s.rooms a b) token token' o o (rule_alike (left_side a b) head head' p p (moves s n' cs i)) }
+  infix_moved token token' o head head' p comma a b s n' cs i = record { typing = refl; state = moves s n' cs i }
+
+  pub infix_alike : (token token' : ℕ) (o : Pos) (head head' : ℕ) (p : Pos) (u : Infix) (a a' b b' : Sort) {s t : State} → a' ≡ a → b' ≡ b → Alike s t → AlikeOutcome (typed_infix token o head p u a b s) (typed_infix token' o head' p u a' b' t)
+  infix_alike token token' o head head' p u a a' b b' {s} {t} e d al = subst (λ y. AlikeOutcome (typed_infix token o head p u a b s) (typed_infix token' o head' p u y b' t)) (sym e) (subst (λ z. AlikeOutcome (typed_infix token o head p u a b s) (typed_infix token' o head' p u a z t)) (sym d)
+      (on_moved (λ z. AlikeOutcome (typed_infix token o head p u a b s) (typed_infix token' o head' p u a b z)) al (λ n' cs i. infix_moved token token' o head head' p u a b s n' cs i)))
+
+  pub choice_alike : (token token' : ℕ) (o : Pos) (a a' b b' c c' : Sort) {s t : State} → a' ≡ a → b' ≡ b → c' ≡ c → Alike s t → AlikeOutcome (typed_choice token o a b c s) (typed_choice token' o a' b' c' t)
+  choice_alike token token' o a a' b b' c c' {s} {t} e d f al =
+      subst (λ x. AlikeOutcome (typed_choice token o a b c s) (typed_choice token' o x b' c' t)) (sym e)
+      (subst (λ y. AlikeOutcome (typed_choice token o a b c s) (typed_choice token' o a y c' t)) (sym d)
+      (subst (λ z. AlikeOutcome (typed_choice token o a b c s) (typed_choice token' o a b z t)) (sym f) (record { typing = refl; state = rule_alike (choice_rule a b c) token token' o o al })))
+
+  pub index_alike : (token token' : ℕ) (o : Pos) (a a' b b' : Sort) {s t : State} → a' ≡ a → b' ≡ b → Alike s t → AlikeOutcome (typed_index token o a b s) (typed_index token' o a' b' t)
+  index_alike token token' o a a' b b' {s} {t} e d al = subst (λ y. AlikeOutcome (typed_index token o a b s) (typed_index token' o y b' t)) (sym e) (subst (λ z. AlikeOutcome (typed_index token o a b s) (typed_index token' o a z t)) (sym d)
+      (on_moved (λ z. AlikeOutcome (typed_index token o a b s) (typed_index token' o a b z)) al (λ n' cs i. record { typing = refl; state = steps_alike 1 (rule_alike (element_rule s.rooms a b) token token' o o (moves s n' cs i)) })))
+
+  -- the field's rule, by the structure before the point or arrow
+  held_alike : (q : Pos) (f : TypeOf → Ruled) (r : Ruled) (c : Constant) {s t : State} → Alike s t → AlikeOutcome (held_field q r c s) (held_field q r c t)
+  held_alike q f r c {s} {t} al = record { typing = refl; state = steps_alike 1 (rule_alike r s.at t.at q q al) }
