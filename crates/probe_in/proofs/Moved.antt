@@ -5,7 +5,7 @@ use Rattle.atac_base.specs.declared.place.Pos.{Pos}
 use Rattle.c_syntax.specs.declared.text.Text.{Text}
 use Rattle.c_syntax.specs.declared.tree.Named.{Named}
 use Rattle.c_syntax.specs.declared.tree.UnaryOp.{UnaryOp}
-use Rattle.c_syntax.specs.Shape.{TypeOf, Infix, plain, and, or, assign, comma, Access, NodeShape, node, ExprShape}
+use Rattle.c_syntax.specs.Shape.{TypeOf, int, pointer, array, structure, nothing, Infix, plain, and, or, assign, comma, Access, NodeShape, node, ExprShape}
 use Rattle.c_kinds.specs.Verdicts.{fits_type, cast_type, logical_type}
 use Rattle.c_values.specs.declared.constants.Constant.{Constant}
 use Rattle.c_values.specs.declared.constants.Constant.TheVariants.{Literal}
@@ -20,8 +20,8 @@ use Rattle.c_tree.specs.declared.meaning.Tag.TheVariants as tag
 use Rattle.c_tree.specs.State.{Seen, State, step, steps, complain, demand, counts, is_set, is_clean, row, function_number, numbered_or, pushed_function}
 use Rattle.c_tree.specs.Rulings.{Ruled, allowed, unsettled, refused, by, rule, kind_at, of_kind, whole, sized}
 use Rattle.c_tree.specs.Sorts.{Sort, naming, a_value, Typing, Outcome, Formed, TypedNode, formed, noted, note_of, node_sort, cleared, changeable}
-use Rattle.c_tree.specs.Operators.{named_variable, named_parameter, named_entity, typed_string, string_type, unary_rule, step_rule, plain_rule, assigned_rule, choice_rule, element_rule, held_field, Called, called_entity, called_builtin, Given, fit_all, judged, call_of, typed_call, place_rule, typed_unary, typed_step, typed_size, typed_type_size, typed_cast, typed_plain, left_side, typed_infix, typed_choice, typed_index, typed_field, holder}
-use Rattle.c_tree.specs.Parts.{Opened, known_structure, listed_structure, opened, begun_at, closed, within, outside, field_state, Valued, next_value, declared_at, declare, enumeration, known_enumeration, listed_enumeration}
+use Rattle.c_tree.specs.Operators.{named_variable, named_parameter, named_entity, typed_string, string_type, unary_rule, step_rule, plain_rule, assigned_rule, choice_rule, element_rule, field_rule, field_constant, heard, held_field, Called, called_entity, called_builtin, Given, fit_all, judged, call_of, typed_call, place_rule, typed_unary, typed_step, typed_size, typed_type_size, typed_cast, typed_plain, left_side, typed_infix, typed_choice, typed_index, typed_field, holder}
+use Rattle.c_tree.specs.Parts.{Opened, twice, known_structure, listed_structure, opened, begun_at, closed, within, outside, field_state, Valued, next_value, declared_at, declare, enumeration, known_enumeration, listed_enumeration}
 
 abbrev pub moved : ℕ → Seen → List Complaint → State → State
 moved a seen cs s = record s { at = a; seen = seen; complaints = cs }
@@ -249,3 +249,102 @@ module _ (n m : ℕ) (seen : Seen) where
   -- the field's rule, by the structure before the point or arrow
   held_alike : (q : Pos) (f : TypeOf → Ruled) (r : Ruled) (c : Constant) {s t : State} → Alike s t → AlikeOutcome (held_field q r c s) (held_field q r c t)
   held_alike q f r c {s} {t} al = record { typing = refl; state = steps_alike 1 (rule_alike r s.at t.at q q al) }
+
+  field_rule_moved : (k : Option TypeOf) (x : Text) (s : State) (a : ℕ) (cs : List Complaint) → of_kind k (field_rule x (moved a seen cs s)) ≡ of_kind k (field_rule x s)
+  field_rule_moved None x s a cs = refl
+  field_rule_moved (Some (int k)) x s a cs = refl
+  field_rule_moved (Some (pointer k)) x s a cs = refl
+  field_rule_moved (Some (array k j)) x s a cs = refl
+  field_rule_moved (Some (structure j)) x s a cs = refl
+  field_rule_moved (Some nothing) x s a cs = refl
+
+  pub field_alike : (token token' : ℕ) (o : Pos) (h : Access) (x : Text) (q : Pos) (a b : Sort) {s t : State} → b ≡ a → Alike s t → AlikeOutcome (typed_field token o h x q a s) (typed_field token' o h x q b t)
+  field_alike token token' o h x q a b {s} {t} same al = subst (λ z. AlikeOutcome (typed_field token o h x q a s) (typed_field token' o h x q z t)) (sym same)
+      (on_moved (λ z. AlikeOutcome (typed_field token o h x q a s) (typed_field token' o h x q a z)) al (λ n' cs i.
+      let r = holder h s.rooms a.kind in
+      let f = of_kind (kind_at r) (field_rule x s) in
+      let v = steps_alike 1 (rule_alike r token token' o o (moves s n' cs i)) in
+      subst (λ g. AlikeOutcome (held_field q f (field_constant h a.constant) (step (rule r token o s))) (held_field q g (field_constant h a.constant) (step (rule r token' o (moved n' seen cs s))))) (sym (field_rule_moved (kind_at r) x s n' cs))
+      (record { typing = refl; state = steps_alike 1 (rule_alike f (step (rule r token o s)).at (step (rule r token' o (moved n' seen cs s))).at q q v) })))
+
+  -- ---- structures and enumerations
+
+  pub record AlikeOpened (x y : Opened) : Type 0 where
+    pub number : y.number ≡ x.number
+    pub state : Alike x.state y.state
+
+  twice_moved : (p : Pos) (s : State) (a : ℕ) (cs : List Complaint) → Counts s cs → AlikeOpened (twice p s) (twice p (moved a seen cs s))
+  twice_moved p s a cs i = record { number = refl; state = complain_alike 31 s.at a p p (moves s a cs i) }
+
+  known_moved : (p : Pos) (x : Text) (o : Option Tag) (s : State) (a : ℕ) (cs : List Complaint) → Counts s cs → AlikeOpened (known_structure p x o s) (known_structure p x o (moved a seen cs s))
+  known_moved p x None s a cs i = record { number = refl; state = record { at = a; complaints = cs; is = refl; count = i } }
+  known_moved p x (Some (tag.Structure k)) s a cs i = record { number = refl; state = moves s a cs i }
+  known_moved p x (Some tag.Enumeration) s a cs i = twice_moved p s a cs i
+
+  pick_opened : (b : Bool) (u v x y : Opened) → AlikeOpened u v → AlikeOpened x y → AlikeOpened (if b then u else x) (if b then v else y)
+  pick_opened true u v x y p q = p
+  pick_opened false u v x y p q = q
+
+  listed_moved : (p : Pos) (x : Text) (o : Option Tag) (s : State) (a : ℕ) (cs : List Complaint) → Counts s cs → AlikeOpened (listed_structure p x o s) (listed_structure p x o (moved a seen cs s))
+  listed_moved p x None s a cs i = record { number = refl; state = record { at = a; complaints = cs; is = refl; count = i } }
+  listed_moved p x (Some (tag.Structure k)) s a cs i = pick_opened (is_set (row s.begun k)) _ _ _ _ (twice_moved p s a cs i) (record { number = refl; state = moves s a cs i })
+  listed_moved p x (Some tag.Enumeration) s a cs i = twice_moved p s a cs i
+
+  opened_moved : (alone list : Bool) (x : Option Named) (s : State) (a : ℕ) (cs : List Complaint) → Counts s cs → AlikeOpened (opened alone list x s) (opened alone list x (moved a seen cs s))
+  opened_moved alone true None s a cs i = record { number = refl; state = record { at = a; complaints = cs; is = refl; count = i } }
+  opened_moved alone true (Some x) s a cs i = listed_moved x.pos x.text (find_here x.text s.tags) s a cs i
+  opened_moved alone false None s a cs i = record { number = refl; state = moves s a cs i }
+  opened_moved alone false (Some x) s a cs i = known_moved x.pos x.text (if alone then find_here x.text s.tags else find x.text s.tags) s a cs i
+
+  pub opened_alike : (alone list : Bool) (x : Option Named) {s t : State} → Alike s t → AlikeOpened (opened alone list x s) (opened alone list x t)
+  opened_alike alone list x {s} al = on_moved (λ z. AlikeOpened (opened alone list x s) (opened alone list x z)) al (λ a cs i. opened_moved alone list x s a cs i)
+
+  pub begun_alike : (o o' : Option ℕ) {s t : State} → o' ≡ o → Alike s t → Alike (begun_at o s) (begun_at o' t)
+  begun_alike o o' {s} {t} e al = subst (λ z. Alike (begun_at o s) (begun_at z t)) (sym e) (on_moved (λ z. Alike (begun_at o s) (begun_at o z)) al (λ a cs i. begun_moved o s a cs i))
+    where
+      begun_moved : (o : Option ℕ) (s : State) (a : ℕ) (cs : List Complaint) → Counts s cs → Alike (begun_at o s) (begun_at o (moved a seen cs s))
+      begun_moved None s a cs i = moves s a cs i
+      begun_moved (Some k) s a cs i = record { at = a; complaints = cs; is = refl; count = i }
+
+  pub closed_alike : (o o' : Option ℕ) (fields fields' : List FieldShape) {s t : State} → o' ≡ o → fields' ≡ fields → Alike s t → Alike (closed o fields s) (closed o' fields' t)
+  closed_alike o o' fields fields' {s} {t} e d al = subst (λ y. Alike (closed o fields s) (closed y fields' t)) (sym e) (subst (λ z. Alike (closed o fields s) (closed o z t)) (sym d)
+      (on_moved (λ z. Alike (closed o fields s) (closed o fields z)) al (λ a cs i. closed_moved o fields s a cs i)))
+    where
+      closed_moved : (o : Option ℕ) (fields : List FieldShape) (s : State) (a : ℕ) (cs : List Complaint) → Counts s cs → Alike (closed o fields s) (closed o fields (moved a seen cs s))
+      closed_moved None fields s a cs i = moves s a cs i
+      closed_moved (Some k) fields s a cs i = record { at = a; complaints = cs; is = refl; count = i }
+
+  pub outside_alike : (file file' : Bool) {s t : State} → file' ≡ file → Alike s t → Alike (outside file s) (outside file' t)
+  outside_alike file file' {s} {t} e al = subst (λ y. Alike (outside file s) (outside y t)) (sym e) (record { at = al.at; complaints = al.complaints; is = ap (outside file) al.is; count = al.count })
+
+  pub quiet_alike : (quiet quiet' : Bool) {s t : State} → quiet' ≡ quiet → Alike s t → Alike (heard quiet s) (heard quiet' t)
+  quiet_alike quiet quiet' {s} {t} e al = subst (λ y. Alike (heard quiet s) (heard y t)) (sym e) (record { at = al.at; complaints = al.complaints; is = ap (heard quiet) al.is; count = al.count })
+
+  pub field_state_alike : (token token' : ℕ) (p : Pos) (free free' : Bool) (k k' : Option TypeOf) {s t : State} → free' ≡ free → k' ≡ k → Alike s t → Alike (field_state token p free k s) (field_state token' p free' k' t)
+  field_state_alike token token' p free free' k k' {s} {t} e d al = subst (λ y. Alike (field_state token p free k s) (field_state token' p y k' t)) (sym e) (subst (λ z. Alike (field_state token p free k s) (field_state token' p free z t)) (sym d)
+      (on_moved (λ z. Alike (field_state token p free k s) (field_state token' p free k z)) al (λ a cs i. rule_alike (of_kind k (whole s.rooms)) token token' p p (demand_alike free 31 token token' p (moves s a cs i)))))
+
+  declared_moved : (token token' : ℕ) (p : Pos) (x : Text) (e : Entity) (o : Option Entity) (s : State) (a : ℕ) (cs : List Complaint) → Counts s cs → Alike (declared_at token p x e o s) (declared_at token' p x e o (moved a seen cs s))
+  declared_moved token token' p x e None s a cs i = record { at = a; complaints = cs; is = refl; count = i }
+  declared_moved token token' p x e (Some o) s a cs i = complain_alike 31 token token' p p (moves s a cs i)
+
+  pub declare_alike : (token token' : ℕ) (p : Pos) (x : Text) (e e' : Entity) {s t : State} → e' ≡ e → Alike s t → Alike (declare token p x e s) (declare token' p x e' t)
+  declare_alike token token' p x e e' {s} {t} d al = subst (λ y. Alike (declare token p x e s) (declare token' p x y t)) (sym d) (on_moved (λ z. Alike (declare token p x e s) (declare token' p x e z)) al (λ a cs i. declared_moved token token' p x e (find_here x s.names) s a cs i))
+
+  listed_enum_moved : (p : Pos) (x : Text) (o : Option Tag) (s : State) (a : ℕ) (cs : List Complaint) → Counts s cs → Alike (listed_enumeration p x o s) (listed_enumeration p x o (moved a seen cs s))
+  listed_enum_moved p x None s a cs i = record { at = a; complaints = cs; is = refl; count = i }
+  listed_enum_moved p x (Some o) s a cs i = complain_alike 31 s.at a p p (moves s a cs i)
+
+  known_enum_moved : (p : Pos) (o : Option Tag) (s : State) (a : ℕ) (cs : List Complaint) → Counts s cs → Alike (known_enumeration p o s) (known_enumeration p o (moved a seen cs s))
+  known_enum_moved p (Some tag.Enumeration) s a cs i = moves s a cs i
+  known_enum_moved p (Some (tag.Structure k)) s a cs i = complain_alike 31 s.at a p p (moves s a cs i)
+  known_enum_moved p None s a cs i = complain_alike 30 s.at a p p (moves s a cs i)
+
+  enumeration_moved : (list : Bool) (x : Option Named) (s : State) (a : ℕ) (cs : List Complaint) → Counts s cs → Alike (enumeration list x s) (enumeration list x (moved a seen cs s))
+  enumeration_moved true None s a cs i = moves s a cs i
+  enumeration_moved false None s a cs i = moves s a cs i
+  enumeration_moved true (Some x) s a cs i = listed_enum_moved x.pos x.text (find_here x.text s.tags) s a cs i
+  enumeration_moved false (Some x) s a cs i = known_enum_moved x.pos (find x.text s.tags) s a cs i
+
+  pub enumeration_alike : (list : Bool) (x : Option Named) {s t : State} → Alike s t → Alike (enumeration list x s) (enumeration list x t)
+  enumeration_alike list x {s} al = on_moved (λ z. Alike (enumeration list x s) (enumeration list x z)) al (λ a cs i. enumeration_moved list x s a cs i)
