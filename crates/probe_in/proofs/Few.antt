@@ -26,14 +26,14 @@ few_before b few = record {
 
 -- ---- one more item
 
-blocks_then : (items : List Item) (i : Item) → block_count (items ++ i ∷ []) ≡ block_count items + block_count (i ∷ [])
+pub blocks_then : (items : List Item) (i : Item) → block_count (items ++ i ∷ []) ≡ block_count items + block_count (i ∷ [])
 blocks_then [] i = omega arith
 blocks_then (block p ∷ items) i = omega (arith, blocks_then items i)
 blocks_then (decision p o ∷ items) i = blocks_then items i
 blocks_then (def p f d ∷ items) i = blocks_then items i
 blocks_then (used p f d o ∷ items) i = blocks_then items i
 
-defs_then : (items : List Item) (i : Item) → def_count (items ++ i ∷ []) ≡ def_count items + def_count (i ∷ [])
+pub defs_then : (items : List Item) (i : Item) → def_count (items ++ i ∷ []) ≡ def_count items + def_count (i ∷ [])
 defs_then [] i = omega arith
 defs_then (def p f d ∷ items) i = omega (arith, defs_then items i)
 defs_then (decision p o ∷ items) i = defs_then items i

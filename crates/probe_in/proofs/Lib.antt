@@ -7,6 +7,7 @@ pub mod OwnUnits
 mod Grows
 mod GrowsUnits
 mod Moved
+mod Claims
 mod Told
 mod Few
 mod Rounds
