@@ -1,5 +1,5 @@
 -- Where the numbers of probes are claimed in the order of the walk, each is new, and is claimed from then on.
-use Rattle.std.proofs.Common.{◌≡◌, ℕ, zero, suc, ◌+◌, ◌≤◌, ◌<◌, ◌^◌, ◌++◌, List, [], ◌∷◌, Option, Some, None, Bool, true, false, ◌∙◌, refl, sym, ap, ap₂, subst, arith}
+use Rattle.std.proofs.Common.{◌≡◌, ℕ, zero, suc, ◌≤◌, ◌<◌, ◌++◌, List, [], ◌∷◌, Option, Some, None, Bool, true, false, ◌∙◌, refl, ap, ap₂, subst, arith}
 use Rattle.std.specs.Prelude.{bytes_eq, cond}
 use Rattle.std.specs.Map.{lookup}
 use Rattle.std.specs.Fmt.{decimal}
@@ -8,12 +8,11 @@ use Rattle.std.proofs.lemmas.Fmt.{decimal_injective}
 use Rattle.std.proofs.lemmas.Slice.Eq.{bytes_eq-Decides}
 use Rattle.atac_base.specs.declared.place.Pos.{Pos}
 use Rattle.c_syntax.specs.Shape.{Probing, block, test, used, def}
-use Rattle.c_values.specs.Probes.{probe_number_of}
 use Rattle.c_scopes.specs.Rows.{Scope}
 use Rattle.c_scopes.specs.Scoping.{named}
 use Rattle.c_tree.specs.State.{Seen, State}
 use Rattle.c_tree.specs.Operators.{seen_of, with_seen, claimed, claim}
-use Rattle.c_items.specs.Items.{Direct, Outcomes, Item, block as a_block, decision, def as a_def, used as a_use}
+use Rattle.c_items.specs.Items.{Direct, Outcomes, block as a_block, decision, def as a_def, used as a_use}
 use Rattle.c_items.specs.Walked.{Walked, with_item, with_block, with_decision, next_decision}
 use Rattle.c_meaning.specs.Firsts.{block_count, def_count, use_count}
 use Rattle.probe_in.specs.Marks.{next_block, next_def, next_use}

@@ -1,11 +1,10 @@
 -- Typing takes no complaint back: expressions, and the types that they name.
-use Rattle.std.proofs.Common.{◌≡◌, ℕ, ℤ, ◌+◌, ◌≤◌, List, [], ◌∷◌, ◌++◌, length, Option, Some, None, Bool, true, false, refl, arith, length-append}
+use Rattle.std.proofs.Common.{ℕ, ℤ, ◌≤◌, List, [], ◌∷◌, ◌++◌, length, Option, Some, None, Bool, true, false, arith, length-append}
 use Rattle.std.specs.Prelude.{pos, nat_eq, not, ◌&&◌, if◌then◌else◌}
 use Rattle.atac_base.specs.declared.place.Pos.{Pos}
 use Rattle.c_syntax.specs.declared.text.Text.{Text}
 use Rattle.c_syntax.specs.declared.tree.Named.{Named}
-use Rattle.c_syntax.specs.declared.tree.UnaryOp.{UnaryOp}
-use Rattle.c_syntax.specs.Shape.{TypeOf, number, char, str, name, unary, before, size_of, Infix, plain, and, or, assign, comma, Probing, block, test, used, def, NodeShape, node, ExprShape, leaf, paren, call, prefix, size_of_type, cast, suffix, two, choose, probe, index, field, behind, simple, select, NodeShapes, no_nodes, more_nodes, MaybeNode, no_node, one_node, LengthShapes, no_lengths, more_lengths, TypeShape, type_name, SpecShapes, no_specs, more_specs, word, struct, enum, MaybeDecls, no_members, members, MaybeEnumers, no_rows, rows, EnumerShapes, no_enumers, more_enumers, decl, DeclShapes, no_decls, more_decls, declarator, DeclaratorShapes, no_declarators, more_declarators, arrays, function}
+use Rattle.c_syntax.specs.Shape.{TypeOf, number, char, str, name, unary, before, size_of, Infix, plain, and, or, assign, comma, Probing, test, NodeShape, node, ExprShape, leaf, paren, call, prefix, size_of_type, cast, suffix, two, choose, probe, index, field, behind, simple, select, NodeShapes, no_nodes, more_nodes, MaybeNode, no_node, one_node, LengthShapes, no_lengths, more_lengths, TypeShape, type_name, SpecShapes, no_specs, more_specs, word, struct, enum, MaybeDecls, no_members, members, MaybeEnumers, no_rows, rows, EnumerShapes, no_enumers, more_enumers, decl, DeclShapes, no_decls, more_decls, declarator, DeclaratorShapes, no_declarators, more_declarators, arrays, function}
 use Rattle.c_tree.specs.Tables.{FunctionShape, VariableShape, FieldShape}
 use Rattle.c_tree.specs.declared.meaning.Entity.{Entity}
 use Rattle.c_tree.specs.declared.meaning.Entity.TheVariants as entity
@@ -15,13 +14,13 @@ use Rattle.c_kinds.specs.Verdicts.{fits_type}
 use Rattle.c_values.specs.Probes.{probe_number_of}
 use Rattle.c_scopes.specs.Scoping.{named, find_here, find}
 use Rattle.c_tree.specs.Builtins.{builtin_name, builtin_result, builtin_params}
-use Rattle.c_tree.specs.State.{State, step, steps, complain, demand, counts, is_set, is_clean, row, field_type, Numbered, mention, function_number, numbered_or, pushed_function}
+use Rattle.c_tree.specs.State.{State, step, steps, complain, demand, counts, is_set, is_clean, row, field_type, function_number, numbered_or, pushed_function}
 use Rattle.c_tree.specs.Rulings.{Ruled, allowed, unsettled, refused, by, rule, kind_at, of_kind, whole}
 use Rattle.c_values.specs.Constants as constants
-use Rattle.c_tree.specs.Sorts.{Sort, TypedNode, pos_in, changeable}
-use Rattle.c_tree.specs.Operators.{named_variable, named_parameter, named_entity, typed_name, called_row, called_entity, called, Given, given_at, fit_all, judged, call_of, typed_call, typed_infix, with_literal, left_side, place_rule, holder, constant_rule, seen_of, claimed, claim, hushed, heard}
+use Rattle.c_tree.specs.Sorts.{Sort, pos_in, changeable}
+use Rattle.c_tree.specs.Operators.{named_variable, named_parameter, named_entity, called_entity, called, Given, given_at, fit_all, call_of, typed_call, typed_infix, with_literal, left_side, place_rule, holder, constant_rule, seen_of, claimed, claim, hushed, heard}
 use Rattle.c_tree.specs.Typing.{opening, type_node, type_form, type_arguments, type_cases, type_type, type_lengths, type_specs, type_struct, type_lines, type_fields, type_enum, type_rows, type_value}
-use Rattle.c_tree.specs.Parts.{Length, length_rule, value_rule, passes, Spelled, unspelled, with_word, with_tagged, spelled_rule, star_tokens, left_out, length_of, judged_length, judged_constant, new_structure, known_structure, listed_structure, Opened, opened, begun_at, closed, within, outside, tag_tokens, field_state, is_free, text_of, name_pos, with_field, arrays_of, pointed, Valued, next_value, given_value, declared_at, declare, entity_of, after, enumeration, known_enumeration, listed_enumeration, static_fits}
+use Rattle.c_tree.specs.Parts.{Length, length_rule, value_rule, passes, Spelled, unspelled, with_word, with_tagged, spelled_rule, star_tokens, left_out, length_of, judged_length, judged_constant, known_structure, listed_structure, Opened, opened, begun_at, closed, within, tag_tokens, field_state, is_free, text_of, name_pos, with_field, arrays_of, pointed, declared_at, declare, entity_of, after, enumeration, known_enumeration, listed_enumeration, static_fits}
 
 abbrev pub Grows : State → State → Type 0
 Grows s t = length s.complaints ≤ length t.complaints

@@ -1,29 +1,26 @@
 -- Typing takes no complaint back: initialisers, declarations, statements and units.
-use Rattle.std.proofs.Common.{◌≡◌, ℕ, ℤ, ◌+◌, ◌≤◌, List, [], ◌∷◌, ◌++◌, length, Option, Some, None, Bool, true, false, refl, arith}
-use Rattle.std.specs.Prelude.{nat_eq, nat_le, ◌||◌, not, ◌&&◌, if◌then◌else◌}
+use Rattle.std.proofs.Common.{ℕ, ℤ, List, [], ◌∷◌, Option, Some, None, Bool, true, false}
+use Rattle.std.specs.Prelude.{nat_eq, ◌||◌}
 use Rattle.atac_base.specs.declared.place.Pos.{Pos}
-use Rattle.atac_base.specs.declared.place.IntKind.TheVariants.{Char}
 use Rattle.c_syntax.specs.declared.text.Text.{Text}
 use Rattle.c_syntax.specs.declared.tree.Named.{Named}
 use Rattle.c_syntax.specs.declared.tree.Star.{Star}
 use Rattle.c_syntax.specs.declared.tree.ProbeMark.{ProbeMark}
-use Rattle.c_syntax.specs.declared.tree.ProgramLine.{ProgramLine}
-use Rattle.c_syntax.specs.Shape.{TypeOf, int, block, def, NodeShape, node, MaybeNode, no_node, one_node, LengthShapes, SpecShapes, decl, DeclShape, DeclShapes, no_decls, more_decls, DeclaratorShape, declarator, DeclaratorShapes, no_declarators, more_declarators, DeclFormShape, arrays, function, ParamsShape, empty, void, params, MaybeInit, no_init, one_init, InitShape, one, listed, InitShapes, no_inits, more_inits, LabelShape, case, default, StmtShape, stmt, FormShape, compound, simply, when, either, while, do_while, for, switch, break, continue, return, CompoundShape, braces, ItemShapes, no_items, more_items, ExternalShape, defined, declared, UnitShape}
+use Rattle.c_syntax.specs.Shape.{TypeOf, block, def, NodeShape, MaybeNode, no_node, one_node, LengthShapes, SpecShapes, decl, DeclShape, DeclShapes, no_decls, more_decls, DeclaratorShape, declarator, DeclaratorShapes, no_declarators, more_declarators, arrays, function, ParamsShape, empty, void, params, MaybeInit, no_init, one_init, InitShape, one, listed, InitShapes, no_inits, more_inits, LabelShape, case, default, StmtShape, stmt, FormShape, compound, simply, when, either, while, do_while, for, switch, break, continue, return, CompoundShape, braces, ItemShapes, no_items, more_items, ExternalShape, defined, declared}
 use Rattle.c_values.specs.Constants as constants
-use Rattle.c_values.specs.Probes.{digest_of}
 use Rattle.c_scopes.specs.Scoping.{find_here}
-use Rattle.c_kinds.specs.Verdicts.{truth_type, result_type}
+use Rattle.c_kinds.specs.Verdicts.{result_type}
 use Rattle.c_tree.specs.declared.meaning.Entity.{Entity}
-use Rattle.c_tree.specs.State.{State, first_place, step, steps, complain, demand, mention, function_number}
-use Rattle.c_tree.specs.Rulings.{Ruled, allowed, by, rule, kind_at, of_kind}
+use Rattle.c_tree.specs.State.{State, first_place, step, steps, complain, mention, function_number}
+use Rattle.c_tree.specs.Rulings.{by, rule, kind_at, of_kind}
 use Rattle.c_tree.specs.Sorts.{pos_in}
 use Rattle.c_tree.specs.Operators.{claim, constant_rule, hushed, heard}
-use Rattle.c_tree.specs.Parts.{Length, unspelled, spelled_rule, star_tokens, pointed, text_of, name_pos}
+use Rattle.c_tree.specs.Parts.{unspelled, spelled_rule, star_tokens, pointed, text_of, name_pos}
 use Rattle.c_tree.specs.Typing.{type_node, type_specs, type_lengths}
 use Rattle.c_tree.specs.Initialisers.{lengths_with, form_in, chars_of, filled, constant_init, fits, one_init_of, list_rule, slots, Slots, slot, slot_rule, further, init_pos, type_init, type_inits}
 use Rattle.c_tree.specs.Declaring.{name_tokens, claim_mark, claim_name, token_of_name, with_variable, variable_at, declare_variable, variable_rule, has_init, type_maybe_init, type_variable, parameter_at, with_parameter, declare_parameter, parameter_rule, name_demand, type_param, type_param_list, type_params, opened_scope, closed_params, all_kinds, signature_of, Signature, function_at, unclear_at, function_entity, declare_function, type_function, type_declarator, type_declarators, none_declared, semicolon, type_decl, type_decls}
 use Rattle.c_tree.specs.Stating.{Surroundings, in_loop, in_switch, Labels, no_labels, tested, switched, result_rule, type_maybe, type_test, type_result, type_marks, case_state, default_state, case_labels, default_labels, type_labels, type_stmt, type_body, type_compound, type_items}
-use Rattle.c_tree.specs.Units.{with_variables, variable_of, begun_function, ended_function, type_definition, type_external, type_externals, start, type_line, any_main, type_unit}
+use Rattle.c_tree.specs.Units.{with_variables, variable_of, begun_function, type_external, type_externals}
 use Rattle.probe_in.proofs.Grows.{Grows, ◌▸◌, as_it_was, complain_grows, demand_grows, rule_grows, claim_grows, node_grows, lengths_grow, specs_grow, mention_grows}
 
 -- ---- initialisers

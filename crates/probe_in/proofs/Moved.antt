@@ -1,5 +1,6 @@
--- Typing depends neither on how many tokens stand before, nor on which probes were seen, nor on what was complained of before: the parts.
-use Rattle.std.proofs.Common.{◌≡◌, ℕ, suc, ℤ, ◌+◌, ◌≤◌, List, [], ◌∷◌, ◌++◌, length, Option, Some, None, Bool, true, false, ◌∙◌, refl, sym, ap, ap₂, subst, arith, length-append}
+-- Typing an expression without probes depends neither on how many tokens stand before it, nor on which probes were seen, nor on what was
+-- complained of before.
+use Rattle.std.proofs.Common.{◌≡◌, ℕ, suc, ℤ, ◌+◌, List, [], ◌∷◌, ◌++◌, length, Option, Some, None, Bool, true, false, ◌∙◌, refl, sym, ap, ap₂, subst, arith, length-append}
 use Rattle.std.specs.Prelude.{pos, nat_eq, not, min, ◌-◌, ◌^◌, ◌&&◌, if◌then◌else◌}
 use Rattle.atac_base.specs.declared.place.Pos.{Pos}
 use Rattle.c_syntax.specs.declared.text.Text.{Text}
@@ -11,7 +12,6 @@ use Rattle.c_values.specs.Numbers.{number_of}
 use Rattle.c_values.specs.Constants as constants
 use Rattle.c_kinds.specs.Verdicts.{fits_type, cast_type, logical_type}
 use Rattle.c_values.specs.declared.constants.Constant.{Constant}
-use Rattle.c_values.specs.declared.constants.Constant.TheVariants.{Literal}
 use Rattle.c_scopes.specs.Scoping.{find_here, find}
 use Rattle.c_tree.specs.Tables.{FunctionShape, VariableShape, FieldShape}
 use Rattle.c_tree.specs.Builtins.{builtin_name, builtin_result, builtin_params}
@@ -22,9 +22,9 @@ use Rattle.c_tree.specs.declared.meaning.Tag.{Tag}
 use Rattle.c_tree.specs.declared.meaning.Tag.TheVariants as tag
 use Rattle.c_tree.specs.State.{Seen, State, step, steps, complain, demand, counts, is_set, is_clean, field_type, row, function_number, numbered_or, pushed_function}
 use Rattle.c_tree.specs.Rulings.{Ruled, allowed, unsettled, refused, by, rule, kind_at, of_kind, whole, sized}
-use Rattle.c_tree.specs.Sorts.{Sort, plainly, TypedType, pos_in, null, naming, a_value, Typing, Outcome, Formed, TypedNode, formed, noted, note_of, node_sort, cleared, changeable}
-use Rattle.c_tree.specs.Operators.{has_value, given_at, named_variable, named_parameter, named_entity, typed_string, string_type, unary_rule, step_rule, plain_rule, assigned_rule, choice_rule, element_rule, field_rule, field_constant, heard, held_field, Called, called_entity, called_builtin, Given, fit_all, judged, call_of, typed_call, place_rule, typed_unary, typed_step, typed_size, typed_type_size, typed_cast, typed_plain, left_side, typed_infix, typed_choice, typed_index, typed_field, holder}
-use Rattle.c_tree.specs.Parts.{TypedNodes, TypedLengths, TypedSpecs, TypedSpec, TypedDecls, TypedNames, TypedRows, Length, left_out, length_of, length_rule, Spelled, unspelled, with_word, with_tagged, static_fits, spelled_rule, star_tokens, pointed, arrays_of, tag_tokens, structure_kind, kind_if, is_free, text_of, name_pos, with_field, only_int, passes, value_rule, entity_of, after, Opened, twice, known_structure, listed_structure, opened, begun_at, closed, within, outside, field_state, Valued, next_value, declared_at, declare, enumeration, known_enumeration, listed_enumeration}
+use Rattle.c_tree.specs.Sorts.{Sort, plainly, TypedType, pos_in, null, Typing, Outcome, Formed, TypedNode, formed, noted, note_of, node_sort, cleared, changeable}
+use Rattle.c_tree.specs.Operators.{has_value, given_at, named_variable, named_parameter, named_entity, typed_string, string_type, unary_rule, step_rule, plain_rule, assigned_rule, choice_rule, element_rule, field_rule, field_constant, heard, held_field, Called, called_entity, called_builtin, Given, fit_all, judged, call_of, typed_call, place_rule, typed_unary, typed_step, typed_size, typed_type_size, typed_cast, left_side, typed_infix, typed_choice, typed_index, typed_field, holder}
+use Rattle.c_tree.specs.Parts.{TypedNodes, TypedLengths, TypedSpecs, TypedSpec, TypedDecls, TypedNames, TypedRows, Length, left_out, length_of, length_rule, Spelled, unspelled, with_word, with_tagged, static_fits, spelled_rule, star_tokens, pointed, arrays_of, tag_tokens, structure_kind, kind_if, is_free, text_of, name_pos, with_field, only_int, passes, value_rule, entity_of, after, Opened, twice, known_structure, listed_structure, opened, begun_at, closed, outside, field_state, Valued, declared_at, declare, enumeration, known_enumeration, listed_enumeration}
 use Rattle.c_marks.specs.Marked.{first, mark_in, name_mark, node_mark, form_mark, nodes_mark, maybe_mark, lengths_mark, type_mark, specs_mark, members_mark, rows_mark, enumers_mark, decls_mark, declarators_mark, params_mark, maybe_init_mark}
 use Rattle.c_tree.specs.Typing.{opening, type_node, type_form, type_arguments, type_type, type_lengths, type_specs, type_struct, type_lines, type_fields, type_enum, type_rows, type_value}
 use Rattle.probe_in.proofs.ReadyUnits.{some_none, none_first, none_second}
@@ -208,10 +208,7 @@ module _ (n m : ℕ) (seen : Seen) where
 
   pub string_alike : (p : Pos) (x : Text) {s t : State} → Alike s t → AlikeOutcome (typed_string p x s) (typed_string p x t)
   string_alike p x {s} al = on_moved (λ z. AlikeOutcome (typed_string p x s) (typed_string p x z)) al (λ a cs i.
-      record { typing = literal_typing s.quiet x s; state = steps_alike 1 (rule_alike (whole s.rooms (string_type x)) s.at a p p (literal_alike s.quiet x s a cs i)) })
-    where
-      literal_typing : (b : Bool) (x : Text) (s : State) → naming (a_value (kind_at (whole s.rooms (string_type x))) Literal) (if b then None else Some (length s.tables.literals + 1)) ≡ naming (a_value (kind_at (whole s.rooms (string_type x))) Literal) (if b then None else Some (length s.tables.literals + 1))
-      literal_typing b x s = refl
+      record { typing = refl; state = steps_alike 1 (rule_alike (whole s.rooms (string_type x)) s.at a p p (literal_alike s.quiet x s a cs i)) })
 
   pub unary_alike : (token token' : ℕ) (o : Pos) (head head' : ℕ) (p : Pos) (u : UnaryOp) (a b : Sort) {s t : State} → b ≡ a → Alike s t → AlikeOutcome (typed_unary token o head p u a s) (typed_unary token' o head' p u b t)
   unary_alike token token' o head head' p u a b {s} {t} same al = subst (λ z. AlikeOutcome (typed_unary token o head p u a s) (typed_unary token' o head' p u z t)) (sym same)
@@ -484,7 +481,7 @@ module _ (n m : ℕ) (seen : Seen) where
         let x = type_node a (step s) in
         let y = type_node a (step t) in
         let j = arguments_alike rest (none_second (node_mark a) (nodes_mark rest) none) (gs ++ given_at (step s).at (pos_in a) x.sort ∷ []) (hs ++ given_at (step t).at (pos_in a) y.sort ∷ [])
-            (given_then gs hs _ _ same (ap (λ (z : Sort). z.kind) i.sort) (ap null i.sort)) i.state in
+        (given_then gs hs _ _ same (ap (λ (z : Sort). z.kind) i.sort) (ap null i.sort)) i.state in
         record { nodes = ap₂ more_nodes i.node j.nodes; given = j.given; state = j.state }
 
     pub type_alike : (y : TypeShape) → type_mark y ≡ None → {s t : State} → Alike s t → AlikeType (type_type y s) (type_type y t)
