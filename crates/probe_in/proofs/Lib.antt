@@ -1,25 +1,25 @@
 pub mod ReadNumbers
-mod Ready
-mod ReadyUnits
-mod OwnPlain
-mod OwnProbed
+pub mod Ready
+pub mod ReadyUnits
+pub mod OwnPlain
+pub mod OwnProbed
 pub mod OwnUnits
-mod Grows
-mod GrowsUnits
-mod Moved
-mod Claims
-mod Told
-mod Few
-mod Rounds
-mod Loops
-mod SimNodes
-mod SameConstants
-mod SameInitials
-mod SameCounts
-mod SelectConstants
-mod SimDecls
-mod SimStatements
-mod SimCalls
+pub mod Grows
+pub mod GrowsUnits
+pub mod Moved
+pub mod Claims
+pub mod Told
+pub mod Few
+pub mod Rounds
+pub mod Loops
+pub mod SimNodes
+pub mod SameConstants
+pub mod SameInitials
+pub mod SameCounts
+pub mod SelectConstants
+pub mod SimDecls
+pub mod SimStatements
+pub mod SimCalls
 pub mod Simulation
 mod Worked
 mod WorkedTyped
