@@ -40,18 +40,13 @@ fn copy_form(alloc: Global, form: &Expr) -> Result<Expr, NoMemory>
         Expr::Str(text) => Ok(Expr::Str(text.copy(alloc)?)),
         Expr::Name(text) => Ok(Expr::Name(text.copy(alloc)?)),
         Expr::Paren(a) => Ok(Expr::Paren(copy_node(alloc, a)?)),
-        Expr::Index(a, b) => {
-            let a = copy_node(alloc, a)?;
-            Ok(Expr::Index(a, copy_node(alloc, b)?))
-        }
-        Expr::Member(a, name, pos) => {
-            let name = name.copy(alloc)?;
-            Ok(Expr::Member(copy_node(alloc, a)?, name, *pos))
-        }
-        Expr::Arrow(a, name, pos) => {
-            let name = name.copy(alloc)?;
-            Ok(Expr::Arrow(copy_node(alloc, a)?, name, *pos))
-        }
+        Expr::Index(a, b) => Ok(Expr::Index(copy_node(alloc, a)?, copy_node(alloc, b)?)),
+        Expr::Member(a, name, pos) => Ok(Expr::Member(
+            copy_node(alloc, a)?,
+            name.copy(alloc)?,
+            *pos,
+        )),
+        Expr::Arrow(a, name, pos) => Ok(Expr::Arrow(copy_node(alloc, a)?, name.copy(alloc)?, *pos)),
         Expr::Call(name, args) => copy_call(alloc, name, args),
         Expr::Unary(op, a) => Ok(Expr::Unary(*op, copy_node(alloc, a)?)),
         Expr::Step(op, a) => Ok(Expr::Step(*op, copy_node(alloc, a)?)),
@@ -61,31 +56,16 @@ fn copy_form(alloc: Global, form: &Expr) -> Result<Expr, NoMemory>
             let a = copy_node(alloc, a)?;
             Ok(Expr::Cast(copy_type(alloc, name)?, a))
         }
-        Expr::Binary(op, a, b) => {
-            let a = copy_node(alloc, a)?;
-            Ok(Expr::Binary(*op, a, copy_node(alloc, b)?))
-        }
-        Expr::And(a, b) => {
-            let a = copy_node(alloc, a)?;
-            Ok(Expr::And(a, copy_node(alloc, b)?))
-        }
-        Expr::Or(a, b) => {
-            let a = copy_node(alloc, a)?;
-            Ok(Expr::Or(a, copy_node(alloc, b)?))
-        }
+        Expr::Binary(op, a, b) => Ok(Expr::Binary(*op, copy_node(alloc, a)?, copy_node(alloc, b)?)),
+        Expr::And(a, b) => Ok(Expr::And(copy_node(alloc, a)?, copy_node(alloc, b)?)),
+        Expr::Or(a, b) => Ok(Expr::Or(copy_node(alloc, a)?, copy_node(alloc, b)?)),
         Expr::Cond(a, b, c) => {
             let a = copy_node(alloc, a)?;
             let b = copy_node(alloc, b)?;
             Ok(Expr::Cond(a, b, copy_node(alloc, c)?))
         }
-        Expr::Assign(op, a, b) => {
-            let a = copy_node(alloc, a)?;
-            Ok(Expr::Assign(*op, a, copy_node(alloc, b)?))
-        }
-        Expr::Comma(a, b) => {
-            let a = copy_node(alloc, a)?;
-            Ok(Expr::Comma(a, copy_node(alloc, b)?))
-        }
+        Expr::Assign(op, a, b) => Ok(Expr::Assign(*op, copy_node(alloc, a)?, copy_node(alloc, b)?)),
+        Expr::Comma(a, b) => Ok(Expr::Comma(copy_node(alloc, a)?, copy_node(alloc, b)?)),
         Expr::Probe(probe, a) => {
             let a = copy_node(alloc, a)?;
             Ok(Expr::Probe(copy_probe(alloc, probe)?, a))
