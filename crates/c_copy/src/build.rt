@@ -3,9 +3,9 @@
 ghost use Rattle.std.specs.Prelude.{◌≡◌, IfOk};
 ghost use Rattle.c_syntax.specs.declared.tree.Enumer.{out-Enumer};
 ghost use Rattle.c_syntax.specs.Shape.{node, call, select, type_name, struct, enum, decl, no_declarators, more_declarators, declarator, arrays, function, params, one, listed};
-ghost use Rattle.c_syntax.specs.View.{note_shape, expr_shape, node_shape, node_list, probe_shape, type_shape, type_lengths_list, spec_shape, spec_list, enumer_list, decl_shape, decl_list, declarator_shape, declarator_list, decl_form_shape, lengths_list, params_shape, param_shape, param_list, init_shape, init_list, maybe_init};
+ghost use Rattle.c_syntax.specs.View.{note_shape, expr_shape, node_shape, node_list, maybe_node, probe_shape, type_shape, type_lengths_list, spec_shape, spec_list, enumer_list, decl_shape, decl_list, declarator_shape, declarator_list, decl_form_shape, lengths_list, params_shape, param_shape, param_list, init_shape, init_list, maybe_init};
 ghost use Rattle.c_syntax.specs.Options.{maybe_members, maybe_rows};
-ghost use Rattle.c_copy.specs.Boxes.{boxed_init};
+ghost use Rattle.c_copy.specs.Boxes.{boxed_init, boxed_node};
 
 use crate::parts::boxed;
 use atac_base::place::{NoMemory, Pos};
@@ -35,6 +35,16 @@ pub fn new_node(
             form,
         },
     )
+}
+
+/// An optional expression out of its box.
+pub fn unboxed_node(node: Option<Box<Node>>) -> Option<Node>
+    ensures { maybe_node result ≡ boxed_node node }
+{
+    match node {
+        None => None,
+        Some(node) => Some(Box::into_inner(node)),
+    }
 }
 
 /// A call.

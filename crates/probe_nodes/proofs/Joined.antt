@@ -1,17 +1,19 @@
 -- Parts with their probes joined to one.
-use Rattle.std.proofs.Common.{◌≡◌, Bool, ap, sym, ◌∙◌}
+use Rattle.std.proofs.Common.{◌≡◌, ℤ, List, Bool, ap, sym, ◌∙◌}
 use Rattle.atac_base.specs.declared.place.Pos.{Pos}
 use Rattle.c_syntax.specs.declared.tree.StepOp.{StepOp}
 use Rattle.c_syntax.specs.declared.tree.StepOp.TheVariants as way
-use Rattle.c_syntax.specs.Shape.{NoteShape, NodeShape, node, ExprShape, choose}
+use Rattle.c_syntax.specs.Shape.{NoteShape, NodeShape, node, ExprShape, choose, ItemShapes}
 use Rattle.c_syntax.specs.View.{step_shape}
 use Rattle.c_items.specs.declared.around.Taken.{Taken}
 use Rattle.c_items.specs.declared.around.Taken.TheVariants.{Read, Changed}
-use Rattle.c_items.specs.Tests.{is_logical_form}
-use Rattle.c_items.specs.Walked.{Walked, with_block, pos_of, inside_test, with_test}
+use Rattle.c_items.specs.Items.{Outcomes, cases}
+use Rattle.c_items.specs.Tests.{is_logical_form, choosing, case_values}
+use Rattle.c_items.specs.Walked.{Walked, with_block, pos_of, inside, inside_test, with_decision, with_test}
 use Rattle.c_items.specs.Walking.{walk_node, walk_form, walk_test, walk_arm, walk_loop_test}
-use Rattle.probe_in.specs.Marks.{in_block, in_test}
-use Rattle.probe_in.specs.ProbedExpressions.{probed_node, probed_form, probed_test, probed_arm, probed_loop_test}
+use Rattle.c_items.specs.Stating.{walk_choice}
+use Rattle.probe_in.specs.Marks.{in_block, in_test, in_select}
+use Rattle.probe_in.specs.ProbedExpressions.{probed_node, probed_form, probed_test, probed_arm, probed_loop_test, probed_choice}
 use Rattle.probe_nodes.specs.declared.numbers.Numbers.{Numbers}
 use Rattle.probe_nodes.specs.Numbers.{counts, Counted, Numbered}
 
@@ -55,3 +57,10 @@ pub loop_test_numbered : (n m k : Numbers) (a inner made : NodeShape) → ((p : 
 loop_test_numbered n m k a inner made counted test round c w h =
     let q = test c (with_block (pos_of a) w) (counted (pos_of a) c w h) in
     (round w h ∙ ap (in_block w) q.0, q.1)
+
+pub choice_numbered : (n m k : Numbers) (a : NodeShape) (items : ItemShapes) (vs : List ℤ) (inner made : NodeShape) → ((p : Pos) (o : Outcomes) → Counted n m (λ c w. with_decision p o w)) → Numbered m k inner (λ c w. probed_node c Read a w) (λ c w. walk_node c Read a w) → vs ≡ case_values (choosing a) items → ((w : Walked) → counts w ≡ n → made ≡ in_select vs w inner) → Numbered n k made (λ c w. probed_choice c a items w) (λ c w. walk_choice c a items w)
+choice_numbered n m k a items vs inner made counted read is round c w h =
+    let all = cases (case_values (choosing a) items) in
+    let v = with_decision (pos_of a) all w in
+    let q = read (inside c w) v (counted (pos_of a) all c w h) in
+    (round w h ∙ ap (in_select vs w) q.0 ∙ ap (λ us. in_select us w (probed_node (inside c w) Read a v)) is, q.1)

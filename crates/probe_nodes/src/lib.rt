@@ -5,3 +5,4 @@ pub mod marks;
 pub mod nodes;
 pub mod numbers;
 pub mod selects;
+pub mod stating;
