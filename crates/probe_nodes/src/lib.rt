@@ -2,6 +2,7 @@
 #![tactic(auto)]
 
 pub mod marks;
+pub mod names;
 pub mod nodes;
 pub mod numbers;
 pub mod selects;

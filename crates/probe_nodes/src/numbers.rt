@@ -5,8 +5,9 @@ ghost use Rattle.std.specs.Fmt.{decimal};
 ghost use Rattle.atac_base.specs.declared.place.Pos.{Pos};
 ghost use Rattle.c_syntax.specs.View.{note_shape, expr_shape};
 ghost use Rattle.c_items.specs.Items.{Outcomes, Direct};
+ghost use Rattle.c_items.specs.Units.{no_items};
 ghost use Rattle.c_items.specs.Places.{has_scalar};
-ghost use Rattle.c_items.specs.Walked.{Walked, next_decision, is_read, is_written, with_block, with_decision, with_test, with_def, with_use, with_site};
+ghost use Rattle.c_items.specs.Walked.{Walked, next_decision, is_read, is_written, with_block, with_block_if, with_decision, with_test, with_def, with_use, with_site};
 ghost use Rattle.probe_in.specs.Marks.{next_block, next_def, next_use};
 ghost use Rattle.probe_nodes.specs.Numbers.{counts, Counted};
 
@@ -28,6 +29,18 @@ pub struct Numbers {
 }
 
 impl Numbers {
+    /// Nothing is numbered yet.
+    pub fn none() -> Numbers
+        ensures { result ≡ counts no_items }
+    {
+        Numbers {
+            blocks: 0,
+            decisions: 0,
+            defs: 0,
+            uses: 0,
+        }
+    }
+
     /// A block is numbered.
     pub fn block(&mut self) -> Result<(), NoMemory>
         ensures { OnOk result ((p : Pos) → Counted self.old self.new (λ c w. with_block p w)) }
@@ -35,6 +48,13 @@ impl Numbers {
         let blocks = next(self.blocks)?;
         self.blocks = blocks;
         Ok(())
+    }
+
+    /// A block is numbered, if it is one.
+    pub fn block_if(&mut self, block: bool) -> Result<(), NoMemory>
+        ensures { OnOk result ((p : Pos) → Counted self.old self.new (λ c w. with_block_if block p w)) }
+    {
+        if block { self.block() } else { Ok(()) }
     }
 
     /// A decision is numbered.
