@@ -22,6 +22,7 @@ use c_syntax::tree::{BinaryOp, Expr, Node, UnaryOp};
 use std::alloc::Global;
 
 /// Makes trees with their probes: what makes memory, and what is numbered so far.
+#[derive(Drop)]
 pub struct Prober {
     pub alloc: Global,
     pub numbers: Numbers,

@@ -1,0 +1,4 @@
+pub mod Listing
+pub mod Lists
+pub mod Stated
+pub mod Functions

@@ -1,0 +1,8 @@
+//! Programs with their probes.
+#![tactic(auto)]
+
+mod build;
+mod declarations;
+mod defining;
+mod statements;
+pub mod unit;
