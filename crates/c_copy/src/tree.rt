@@ -66,10 +66,7 @@ fn copy_form(alloc: Global, form: &Expr) -> Result<Expr, NoMemory>
         }
         Expr::Assign(op, a, b) => Ok(Expr::Assign(*op, copy_node(alloc, a)?, copy_node(alloc, b)?)),
         Expr::Comma(a, b) => Ok(Expr::Comma(copy_node(alloc, a)?, copy_node(alloc, b)?)),
-        Expr::Probe(probe, a) => {
-            let a = copy_node(alloc, a)?;
-            Ok(Expr::Probe(copy_probe(alloc, probe)?, a))
-        }
+        Expr::Probe(probe, a) => Ok(Expr::Probe(copy_probe(alloc, probe)?, copy_node(alloc, a)?)),
     }
 }
 

@@ -172,9 +172,6 @@ pub fn decimal_text(alloc: Global, number: u128) -> Result<Text, NoMemory>
     let Ok(digits) = number.to_string(alloc) else {
         return Err(NoMemory);
     };
-    if digits.len() > 40 {
-        return Err(NoMemory);
-    }
     Text::from_bytes(alloc, digits.as_bytes())
 }
 

@@ -1,4 +1,3 @@
-pub mod Listing
 pub mod Lists
 pub mod Stated
 pub mod Functions

@@ -18,7 +18,7 @@ use Rattle.probe_in.specs.Instrumented.{defined_declarator, defined_declarators,
 use Rattle.probe_in.specs.ProbedStatements.{probed_declarator, probed_declarators, probed_decl, probed_decls, probed_stmt, probed_items}
 use Rattle.probe_nodes.specs.declared.numbers.Numbers.{Numbers}
 use Rattle.probe_nodes.specs.Numbers.{counts}
-use Rattle.probe_unit.proofs.Listing.{Listing, SoFar}
+use Rattle.probe_nodes.proofs.Listing.{Listing, SoFar}
 
 abbrev pub declarators : TablesShape → Around → Listing Declarator DeclaratorShape DeclaratorShapes Walked Numbers
 declarators t c = record {

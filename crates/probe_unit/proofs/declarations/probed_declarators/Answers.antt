@@ -1,6 +1,6 @@
 use Rattle.std.proofs.Common.{ap, ◌∙◌, arith}
 use Rattle.probe_nodes.specs.Numbers.{counts}
-use Rattle.probe_unit.proofs.Listing.{one_more, ended}
+use Rattle.probe_nodes.proofs.Listing.{one_more, ended}
 use Rattle.probe_unit.proofs.Lists.{declarators}
 use Rattle.probe_unit.proofs.declarations.probed_declarators.Goals as goal
 

@@ -1,7 +1,7 @@
 use Rattle.std.proofs.Common.{ap, ◌∙◌, arith}
 use Rattle.c_syntax.specs.Shape.{params}
 use Rattle.probe_nodes.specs.Numbers.{counts}
-use Rattle.probe_unit.proofs.Listing.{one_more, ended}
+use Rattle.probe_nodes.proofs.Listing.{one_more, ended}
 use Rattle.probe_unit.proofs.Lists.{parameters}
 use Rattle.probe_unit.proofs.defining.defined_param_list.Goals as goal
 

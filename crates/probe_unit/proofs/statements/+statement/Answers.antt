@@ -1,7 +1,7 @@
 use Rattle.std.proofs.Common.{sym, ap, ◌∙◌, false, arith}
 use Rattle.c_syntax.proofs.Made.{items_made}
 use Rattle.probe_nodes.specs.Numbers.{counts}
-use Rattle.probe_unit.proofs.Listing.{begun, one_more, ended}
+use Rattle.probe_nodes.proofs.Listing.{begun, one_more, ended}
 use Rattle.probe_unit.proofs.Lists.{items}
 use Rattle.probe_unit.proofs.Stated.{stmt_numbered, begins_known, ended_known, item_made}
 use Rattle.probe_unit.proofs.statements.+statement.Goals as goal

@@ -1,6 +1,6 @@
 use Rattle.std.proofs.Common.{sym, arith}
 use Rattle.c_items.specs.Units.{no_items}
-use Rattle.probe_unit.proofs.Listing.{begun, one_more, ended}
+use Rattle.probe_nodes.proofs.Listing.{begun, one_more, ended}
 use Rattle.probe_unit.proofs.Lists.{externals}
 use Rattle.probe_unit.proofs.unit.probed_externals.Goals as goal
 

@@ -1,7 +1,9 @@
-use Rattle.std.proofs.Common.{refl, sym, arith}
+use Rattle.std.proofs.Common.{refl, sym, ap, ◌∙◌, arith}
 use Rattle.c_syntax.specs.View.{node_shape, expr_shape, note_shape}
 use Rattle.c_syntax.proofs.Made.{nodes_made}
-use Rattle.probe_nodes.proofs.Lists.{argument_onto, arguments_end}
+use Rattle.probe_nodes.specs.Numbers.{counts}
+use Rattle.probe_nodes.proofs.Listing.{one_more, ended}
+use Rattle.probe_nodes.proofs.Lists.{arguments}
 use Rattle.probe_nodes.proofs.Joined.{step_numbered, choose_numbered, test_numbered, arm_numbered, loop_test_numbered}
 use Rattle.probe_nodes.proofs.nodes.Prober.+probed.Goals as goal
 
@@ -30,8 +32,10 @@ pub form-returns-in_ok-call-in-Call : goal.form-returns-in_ok-call-in-Call
 form-returns-in_ok-call-in-Call t c = rw (c.in-Call.is, nodes_made c.in-Call.args, sym c.deref-in-Call.ensures.value) c.in_ok-call-in-Call.ensures
 
 pub nodes-loop-node-preserved : goal.nodes-loop-node-preserved
-nodes-loop-node-preserved t c =
-    argument_onto _ _ _ _ _ _ _ c.args.nodes.now c.loop-node.node-index c.in_ok-put_inner.ensures (omega arith) c.node-item.is c.in_ok-inner.ensures c.loop-node.invariant
+nodes-loop-node-preserved t c c' w h =
+    one_more (arguments c') _ _ _ _ _ _ c.args.nodes.now c.loop-node.node-index w c.in_ok-put_inner.ensures c.loop-node-test.true c.node-item.is (λ v e. c.in_ok-inner.ensures c' v e) (c.loop-node.invariant c' w h)
 
 pub nodes-returns : goal.nodes-returns
-nodes-returns t c = arguments_end _ _ _ c.args.nodes.now c.loop-node.node-index (omega arith) c.loop-node.invariant
+nodes-returns t c c' w h =
+    let p = ended (arguments c') _ _ c.args.nodes.now c.loop-node.node-index w (omega arith) (c.loop-node.invariant c' w h) in
+    (p.2, ap counts p.3 ∙ p.1)
