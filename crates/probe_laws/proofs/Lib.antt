@@ -1,2 +1,9 @@
 mod Counted
 pub mod FewItems
+mod Grows
+mod GrowsUnits
+mod Settled
+mod Known
+mod Rules
+mod KnownParts
+mod KnownNodes
