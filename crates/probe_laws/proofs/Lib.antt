@@ -7,3 +7,4 @@ mod Known
 mod Rules
 mod KnownParts
 mod KnownNodes
+mod FitNodes
