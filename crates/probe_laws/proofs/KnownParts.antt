@@ -134,7 +134,7 @@ count_clear free (Some t) unclear token p s is c = absurd (mended 35 token p s c
 pub length_clear : (free : Bool) (a : Sort) (token : ℕ) (p : Pos) (s : State) → IsThere a.kind → IsClean (rule (length_rule a) token p s) → IsClear free (length_of a)
 length_clear free a token p s is c = count_clear free a.kind (length_of a) token p s is c
 
-map_there : {A B : Type 0} (f : A → B) (o : Option A) → IsThere o → IsThere (option_map f o)
+pub map_there : {A B : Type 0} (f : A → B) (o : Option A) → IsThere o → IsThere (option_map f o)
 map_there f None h = h
 map_there f (Some x) h = tt
 

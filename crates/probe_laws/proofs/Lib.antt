@@ -8,3 +8,4 @@ mod Rules
 mod KnownParts
 mod KnownNodes
 mod FitNodes
+mod FitDecls
