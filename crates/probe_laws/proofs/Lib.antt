@@ -9,3 +9,4 @@ mod KnownParts
 mod KnownNodes
 mod FitNodes
 mod FitDecls
+mod FitStatements
