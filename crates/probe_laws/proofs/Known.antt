@@ -31,24 +31,24 @@ abbrev pub MaybeSure : Bool → ℕ → Option Entity → Type 0
 MaybeSure b n None = Unit {0}
 MaybeSure b n (Some e) = IsSure b n e
 
-abbrev AllSure : Bool → ℕ → Scope Entity → Type 0
+abbrev pub AllSure : Bool → ℕ → Scope Entity → Type 0
 AllSure b n [] = Unit {0}
 AllSure b n (x ∷ rest) = IsSure b n x.1 × AllSure b n rest
 
-abbrev AllOuter : ℕ → List (Scope Entity) → Type 0
+abbrev pub AllOuter : ℕ → List (Scope Entity) → Type 0
 AllOuter n [] = Unit {0}
 AllOuter n (s ∷ rest) = AllSure false n s × AllOuter n rest
 
-abbrev HasOuter : Bool → List (Scope Entity) → Type 0
+abbrev pub HasOuter : Bool → List (Scope Entity) → Type 0
 HasOuter false o = Unit {0}
 HasOuter true [] = ⊥
 HasOuter true (s ∷ rest) = Unit {0}
 
 -- parameters stand in the innermost scope, which is that of their list
 pub record Holds (b : Bool) (n : ℕ) (s : Scoped Entity) : Type 0 where
-  sure : AllSure b n s.top
-  around : AllOuter n s.outer
-  inside : HasOuter b s.outer
+  pub sure : AllSure b n s.top
+  pub around : AllOuter n s.outer
+  pub inside : HasOuter b s.outer
 
 abbrev pub Knows : Bool → State → Type 0
 Knows b s = Holds b (length s.tables.functions) s.names

@@ -10,3 +10,5 @@ mod KnownNodes
 mod FitNodes
 mod FitDecls
 mod FitStatements
+mod BareMarks
+pub mod FitUnits
