@@ -12,3 +12,4 @@ mod FitDecls
 mod FitStatements
 mod BareMarks
 pub mod FitUnits
+pub mod Laws
