@@ -13,3 +13,4 @@ mod FitStatements
 mod BareMarks
 pub mod FitUnits
 pub mod Laws
+mod Worked

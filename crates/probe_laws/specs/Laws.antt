@@ -16,7 +16,7 @@ use Rattle.probe_in.specs.Simulation.{all_walked, IsPlain, Simulates}
 abbrev pub TypedFits : Type 0
 TypedFits = (u : UnitShape) → ShapedUnit u → complaints u ≡ [] → unit_mark u ≡ None → IsFitUnit (typed_unit u).unit
 
--- no site of the program is refused, neither for a probe nor for their number
+-- the program isn't refused: no probe stands in it, and not too many items are counted
 abbrev pub IsTaken : Source → Type 0
 IsTaken P = refusal P.tables P.unit ≡ None
 
