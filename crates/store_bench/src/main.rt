@@ -2,6 +2,8 @@
 //! it. `bench/store.sh` times it.
 #![tactic(auto)]
 
+ghost use Rattle.std.specs.Prelude.{◌<◌, ◌≤◌, ◌+◌, ◌^◌};
+
 use c_store::store::Store;
 use c_store::value::{MakeErr, Pointer, Value};
 use std::alloc::{AllocError, Global};
@@ -13,6 +15,9 @@ const MOST: u32 = 1_048_576;
 // The cells of the object that is written and read.
 const CELLS: u32 = 1_000;
 
+// The scalars that live beside it.
+const SCALARS: u32 = 1_000;
+
 fn cell(instance: u64, index: u32) -> Pointer {
     Pointer {
         instance,
@@ -20,6 +25,16 @@ fn cell(instance: u64, index: u32) -> Pointer {
         length: CELLS,
         size: 1,
         index,
+    }
+}
+
+fn scalar(instance: u64) -> Pointer {
+    Pointer {
+        instance,
+        base: 0,
+        length: 1,
+        size: 1,
+        index: 0,
     }
 }
 
@@ -58,11 +73,68 @@ fn steps(store: &Store, instance: u64, times: u32) -> u32 {
     done
 }
 
+// Reads eight scalars that were made one after the other in turn, and says how many reads gave a 3.
+fn scalar_reads(store: &Store, first: u64, times: u32) -> u32 {
+    let mut threes: u32 = 0;
+    for i in 0..times {
+        let instance = first.saturating_add(u64::from(i % 8));
+        if store.read(scalar(instance)) == Ok(Value::Int(3)) {
+            threes = threes.saturating_add(1);
+        }
+    }
+    threes
+}
+
+// Makes a scalar and ends it, so many times, and says how often it was made.
+#[tactic(auto, using(crate::proofs::Made::counted, crate::proofs::Made::lives))]
+fn scalars(store: &mut Store, times: u32) -> u32
+    requires { store.old.count < 2 ^ 63 }
+{
+    let mut done: u32 = 0;
+    for _i in 0..times {
+        if let Ok(instance) = store.make(1) {
+            store.end(instance);
+            done = done.saturating_add(1);
+        }
+    }
+    done
+}
+
+// Makes scalars, of which each eighth holds a 3, and gives the last one's number.
+#[tactic(auto, using(crate::proofs::Made::counted))]
+fn with_scalars(store: &mut Store) -> Result<u64, MakeErr>
+    requires { store.old.count < 2 ^ 62 }
+    ensures { store.new.count ≤ store.old.count + 1000 }
+{
+    let mut last: u64 = 0;
+    for i in 0..SCALARS {
+        last = store.make(1)?;
+        let _done = store.write(scalar(last), Value::Int(i128::from(i % 8)));
+    }
+    Ok(last)
+}
+
 // A store with one object.
 fn with_object(alloc: Global) -> Result<(Store, u64), MakeErr> {
     let mut store = Store::new(alloc, MOST);
     let instance = store.make(CELLS)?;
     Ok((store, instance))
+}
+
+// What a kind of work comes to; none where there is no such kind.
+// What a kind of work on scalars comes to; none where there is no such kind.
+#[tactic(auto, using(crate::proofs::Made::counted, crate::proofs::Made::lives))]
+fn worked_with_scalars(alloc: Global, kind: &str, times: u32) -> Result<Option<u32>, MakeErr> {
+    let mut store = Store::new(alloc, MOST);
+    let ended = store.make(1)?;
+    store.end(ended);
+    let last = with_scalars(&mut store)?;
+    match kind {
+        "middle" => Ok(Some(scalar_reads(&store, last.saturating_sub(500), times))),
+        "last" => Ok(Some(scalar_reads(&store, last.saturating_sub(7), times))),
+        "scalars" => Ok(Some(scalars(&mut store, times))),
+        _ => Ok(None),
+    }
 }
 
 // What a kind of work comes to; none where there is no such kind.
@@ -74,7 +146,7 @@ fn worked(alloc: Global, kind: &str, times: u32) -> Result<Option<u32>, MakeErr>
         "reads" => Ok(Some(reads(&store, instance, times))),
         "steps" => Ok(Some(steps(&store, instance, times))),
         "nothing" => Ok(Some(written)),
-        _ => Ok(None),
+        _ => worked_with_scalars(alloc, kind, times),
     }
 }
 
