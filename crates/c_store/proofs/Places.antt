@@ -1,5 +1,5 @@
 -- Where a live instance stands.
-use Rattle.std.proofs.Common.{◌≡◌, ℕ, ℤ, pos, ◌+ℤ◌, le-leb, zero, suc, ◌+◌, ◌<◌, ◌≤◌, List, [], ◌∷◌, ◌++◌, length, get_or, take, drop, Option, Some, None, refl, sym, ap, ◌∙◌, subst, arith, eq-eqb, ne_eqb, Ok, Err, Bool, true, false, nat_eq, if◌then◌else◌}
+use Rattle.std.proofs.Common.{◌≡◌, ℕ, ℤ, pos, ◌+ℤ◌, le-leb, zero, suc, ◌+◌, ◌-◌, ◌<◌, ◌≤◌, List, [], ◌∷◌, ◌++◌, length, get_or, take, drop, Option, Some, None, refl, sym, ap, ◌∙◌, subst, arith, eq-eqb, ne_eqb, Ok, Err, Bool, true, false, nat_eq, if◌then◌else◌}
 use Rattle.std.proofs.lemmas.Bool.{eqb-true}
 use Rattle.std.proofs.lemmas.Bool.Decides.{nat_tests}
 use Rattle.c_store.specs.declared.value.Value.TheVariants.{At}
@@ -8,6 +8,7 @@ use Rattle.std.specs.Prelude.{map, slice_get, slice_set}
 use Rattle.c_store.specs.declared.instance.Instance.{Instance}
 use Rattle.c_store.specs.declared.value.Value.{Value}
 use Rattle.c_store.specs.declared.value.Pointer.{Pointer}
+use Rattle.c_store.specs.Held.{cells_in}
 use Rattle.c_store.specs.Cells.{Slot, Cells, slot_of, cell_count, cell_of, is_inside, with_value, write_of, find, replace, without, stepped, Ascending, IsPlace, IsElement, element_of}
 
 record Stands (low : ℕ) (all : List Instance) (i : ℕ) (item : Instance) : Type 0 where
@@ -32,18 +33,26 @@ stands_at top n all i item r h e m =
     let s = stands 0 top all i item r h e in
     subst (λ n. IsPlace n (map slot_of all) (Some i)) m (slot_of item, s.got, s.found, s.replaced)
 
--- from an instance with a lower number on, only what stands after it may be the one
-pub passed : (low top n : ℕ) (all : List Instance) (i : ℕ) (item : Instance) → Ascending low top (map slot_of all) → i < length all → item ≡ get_or all i item → item.number < n → find n (map slot_of (drop (suc i) all)) ≡ None → find n (map slot_of all) ≡ None
-passed low top n [] i item r h e m z = absurd (omega arith)
-passed low top n (x ∷ all) zero item r h e m z = rw (ne_eqb x.number n (λ y. absurd (omega (arith, y, m, ap (λ (q : Instance). q.number) e)))) z
-passed low top n (x ∷ all) (suc i) item r h e m z =
+passed_by : (low top n : ℕ) (all : List Instance) (i : ℕ) (item : Instance) → Ascending low top (map slot_of all) → i < length all → item ≡ get_or all i item → item.number < n → find n (map slot_of (drop (suc i) all)) ≡ None → find n (map slot_of all) ≡ None
+passed_by low top n [] i item r h e m z = absurd (omega arith)
+passed_by low top n (x ∷ all) zero item r h e m z = rw (ne_eqb x.number n (λ y. absurd (omega (arith, y, m, ap (λ (q : Instance). q.number) e)))) z
+passed_by low top n (x ∷ all) (suc i) item r h e m z =
     let s = stands x.number top all i item r.1 (omega arith) e in
-    rw (ne_eqb x.number n (λ y. absurd (omega (arith, y, m, s.above)))) (passed x.number top n all i item r.1 (omega arith) e m z)
+    rw (ne_eqb x.number n (λ y. absurd (omega (arith, y, m, s.above)))) (passed_by x.number top n all i item r.1 (omega arith) e m z)
 
-pub not_here : (n : ℕ) (all : List Instance) (i : ℕ) (item : Instance) → i < length all → item ≡ get_or all i item → (item.number ≡ n → ⊥) → find n (map slot_of (drop (suc i) all)) ≡ None → find n (map slot_of (drop i all)) ≡ None
-not_here n [] i item h e m z = absurd (omega arith)
-not_here n (x ∷ all) zero item h e m z = rw (ne_eqb x.number n (λ y. m (ap (λ (q : Instance). q.number) e ∙ y))) z
-not_here n (x ∷ all) (suc i) item h e m z = not_here n all i item (omega arith) e m z
+-- from an instance with a lower number on, only what stands after it may be the one
+pub passed : (low top n : ℕ) (all : List Instance) (i j : ℕ) (item : Instance) → Ascending low top (map slot_of all) → i < length all → item ≡ get_or all i item → item.number < n → j ≡ suc i → find n (map slot_of (drop j all)) ≡ None → find n (map slot_of all) ≡ None
+passed low top n all i j item r h e m k z = passed_by low top n all i item r h e m (subst (λ j. find n (map slot_of (drop j all)) ≡ None) k z)
+
+none_above : (low top n : ℕ) (live : List Slot) → n ≤ low → Ascending low top live → find n live ≡ None
+none_above low top n [] h r = refl
+none_above low top n (s ∷ rest) h r = rw (ne_eqb s.number n (λ y. absurd (omega (arith, y, h, r.0)))) (none_above s.number top n rest (omega (arith, h, r.0)) r.1)
+
+-- from an instance with a higher number on, none is the one
+pub ahead : (low top n : ℕ) (all : List Instance) (i : ℕ) (item : Instance) → Ascending low top (map slot_of all) → i < length all → item ≡ get_or all i item → n < item.number → find n (map slot_of (drop i all)) ≡ None
+ahead low top n [] i item r h e m = absurd (omega arith)
+ahead low top n (x ∷ all) zero item r h e m = none_above (x.number - 1) top n (map slot_of (x ∷ all)) (omega (arith, m, ap (λ (q : Instance). q.number) e)) (omega (arith, m, ap (λ (q : Instance). q.number) e), r.1)
+ahead low top n (x ∷ all) (suc i) item r h e m = ahead x.number top n all i item r.1 (omega arith) e m
 
 pub map_set : (all : List Instance) (i : ℕ) (y : Instance) → map slot_of (slice_set all i y) ≡ slice_set (map slot_of all) i (slot_of y)
 map_set [] i y = refl
@@ -75,10 +84,19 @@ write_done now most made all p v i item y view element e w sy =
     let Q : Cells → Type 0 = λ c. write_of c p v ≡ Ok (record { most = most; count = made; live = map slot_of (slice_set all i y) }) in
     subst Q view (rw f (chosen _ _ _ w ∙ ap (λ l. Ok (record { most = most; count = made; live = l })) g))
 
-pub cells_set : (all : List Instance) (i : ℕ) (item y : Instance) → item ≡ get_or all i item → length y.cells.items ≡ length item.cells.items → cell_count (map slot_of (slice_set all i y)) ≡ cell_count (map slot_of all)
+inside_first : (p : Pointer) (n : ℕ) → is_inside p n ≡ true → cell_of p < n
+inside_first p n t = grind (arith, nat_tests)
+
+pub room_at : (now : Cells) (most made : ℕ) (all : List Instance) (p : Pointer) (i : ℕ) (item : Instance) → record { most = most; count = made; live = map slot_of all } ≡ now → IsElement p now.live (Ok i) → item ≡ get_or all i item → cell_of p < length (cells_in item.cells)
+room_at now most made all p i item view element e =
+    let P : Cells → Type 0 = λ c. IsElement p c.live (Ok i) in
+    let el : IsElement p (map slot_of all) (Ok i) = subst P (sym view) element in
+    inside_first p (length (cells_in item.cells)) (ap (λ (s : Slot). is_inside p (length s.cells)) (sym (same_slot all i item el.0 el.1 e)) ∙ el.4)
+
+pub cells_set : (all : List Instance) (i : ℕ) (item y : Instance) → item ≡ get_or all i item → length (cells_in y.cells) ≡ length (cells_in item.cells) → cell_count (map slot_of (slice_set all i y)) ≡ cell_count (map slot_of all)
 cells_set [] i item y e n = refl
-cells_set (x ∷ all) zero item y e n = ap (λ k. k + cell_count (map slot_of all)) (n ∙ ap (λ (q : Instance). length q.cells.items) e)
-cells_set (x ∷ all) (suc i) item y e n = ap (λ k. length x.cells.items + k) (cells_set all i item y e n)
+cells_set (x ∷ all) zero item y e n = ap (λ k. k + cell_count (map slot_of all)) (n ∙ ap (λ (q : Instance). length (cells_in q.cells)) e)
+cells_set (x ∷ all) (suc i) item y e n = ap (λ k. length (cells_in x.cells) + k) (cells_set all i item y e n)
 
 pub ascending_set : (low top : ℕ) (all : List Instance) (i : ℕ) (item y : Instance) → Ascending low top (map slot_of all) → item ≡ get_or all i item → y.number ≡ item.number → Ascending low top (map slot_of (slice_set all i y))
 ascending_set low top [] i item y r e n = r
@@ -93,7 +111,7 @@ pub map_push : (all : List Instance) (y : Instance) → map slot_of (all ++ y �
 map_push [] y = refl
 map_push (x ∷ all) y = ap (λ l. slot_of x ∷ l) (map_push all y)
 
-pub cells_push : (all : List Instance) (y : Instance) → cell_count (map slot_of (all ++ y ∷ [])) ≡ cell_count (map slot_of all) + length y.cells.items
+pub cells_push : (all : List Instance) (y : Instance) → cell_count (map slot_of (all ++ y ∷ [])) ≡ cell_count (map slot_of all) + length (cells_in y.cells)
 cells_push [] y = omega arith
 cells_push (x ∷ all) y = omega (arith, cells_push all y)
 
@@ -101,9 +119,9 @@ cells_push (x ∷ all) y = omega (arith, cells_push all y)
 abbrev pub rest_of : List Instance → ℕ → List Instance
 rest_of all i = take i all ++ drop (suc i) all
 
-pub cells_removed : (all : List Instance) (i : ℕ) (item : Instance) → i < length all → item ≡ get_or all i item → cell_count (map slot_of all) ≡ length item.cells.items + cell_count (map slot_of (rest_of all i))
+pub cells_removed : (all : List Instance) (i : ℕ) (item : Instance) → i < length all → item ≡ get_or all i item → cell_count (map slot_of all) ≡ length (cells_in item.cells) + cell_count (map slot_of (rest_of all i))
 cells_removed [] i item h e = absurd (omega arith)
-cells_removed (x ∷ all) zero item h e = ap (λ (q : Instance). length q.cells.items + cell_count (map slot_of all)) (sym e)
+cells_removed (x ∷ all) zero item h e = ap (λ (q : Instance). length (cells_in q.cells) + cell_count (map slot_of all)) (sym e)
 cells_removed (x ∷ all) (suc i) item h e = omega (arith, cells_removed all i item (omega arith) e)
 
 lower : (low mid top : ℕ) (live : List Slot) → low ≤ mid → Ascending mid top live → Ascending low top live
@@ -138,7 +156,7 @@ placed (x ∷ all) (suc i) s g = omega (arith, placed all i s g)
 
 -- the instance of that number was taken out
 pub record Ends (all new : List Instance) (live : List Slot) (n : ℕ) (item : Instance) : Type 0 where
-  pub counted : cell_count (map slot_of all) ≡ length item.cells.items + cell_count (map slot_of new)
+  pub counted : cell_count (map slot_of all) ≡ length (cells_in item.cells) + cell_count (map slot_of new)
   pub done : map slot_of new ≡ without n live
 
 pub end_done : (now : Cells) (most made top : ℕ) (all new : List Instance) (i n : ℕ) (item : Instance) → record { most = most; count = made; live = map slot_of all } ≡ now → IsPlace n now.live (Some i) → Ascending 0 top (map slot_of all) → item ≡ get_or all i item → new ≡ rest_of all i → Ends all new now.live n item
@@ -149,7 +167,7 @@ end_done now most made top all new i n item view place r e w =
     let same : pl.0 ≡ slot_of item = same_slot all i item pl.0 pl.1 e in
     let m : item.number ≡ n = ap (λ (q : Slot). q.number) (sym same) ∙ find_number n (map slot_of all) pl.0 pl.2 in
     record {
-      counted = cells_removed all i item h e ∙ ap (λ l. length item.cells.items + cell_count (map slot_of l)) (sym w);
+      counted = cells_removed all i item h e ∙ ap (λ l. length (cells_in item.cells) + cell_count (map slot_of l)) (sym w);
       done = ap (λ l. map slot_of l) w ∙ sym (without_removed 0 top all i item r h e) ∙ ap (λ k. without k (map slot_of all)) m ∙ ap (λ (c : Cells). without n c.live) view;
     }
 
@@ -163,7 +181,7 @@ found_at now most made all i n item view place e =
 pub not_inside : (live : List Slot) (p : Pointer) (s : Slot) → find p.instance live ≡ Some s → is_inside p (length s.cells) ≡ false → element_of live p ≡ Err OutOfBounds
 not_inside live p s f t = rw (f, t) refl
 
-pub few_cells : (now : Cells) (most made : ℕ) (all : List Instance) (i n : ℕ) (item : Instance) → record { most = most; count = made; live = map slot_of all } ≡ now → IsPlace n now.live (Some i) → item ≡ get_or all i item → length item.cells.items ≤ cell_count (map slot_of all)
+pub few_cells : (now : Cells) (most made : ℕ) (all : List Instance) (i n : ℕ) (item : Instance) → record { most = most; count = made; live = map slot_of all } ≡ now → IsPlace n now.live (Some i) → item ≡ get_or all i item → length (cells_in item.cells) ≤ cell_count (map slot_of all)
 few_cells now most made all i n item view place e =
     let g : slice_get (map slot_of all) i ≡ Some place.0 = ap (λ (c : Cells). slice_get c.live i) view ∙ place.1 in
     omega (arith, cells_removed all i item (placed all i place.0 g) e)

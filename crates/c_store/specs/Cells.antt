@@ -4,6 +4,7 @@ use Rattle.c_store.specs.declared.value.Value.{Value}
 use Rattle.c_store.specs.declared.value.Value.TheVariants.{Int, Null, At}
 use Rattle.c_store.specs.declared.value.Pointer.{Pointer}
 use Rattle.c_store.specs.declared.instance.Instance.{Instance}
+use Rattle.c_store.specs.Held.{cells_in}
 use Rattle.c_store.specs.declared.value.Order.{Order}
 use Rattle.c_store.specs.declared.value.Order.TheVariants.{Lt, Gt, Le, Ge, Eq, Ne}
 use Rattle.c_store.specs.declared.value.MakeErr.{MakeErr}
@@ -26,7 +27,7 @@ pub record Cells : Type 0 where
   pub live : List Slot
 
 abbrev pub slot_of : Instance → Slot
-slot_of i = record { number = i.number; writable = i.writable; cells = i.cells.items }
+slot_of i = record { number = i.number; writable = i.writable; cells = cells_in i.cells }
 
 -- how many cells they have together
 abbrev pub cell_count : List Slot → ℕ

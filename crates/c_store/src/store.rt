@@ -1,7 +1,8 @@
-ghost use Rattle.std.specs.Prelude.{◌≡◌, ◌+◌, ◌*◌, ◌<◌, ◌^◌, map, ℕ, IfOk, OnOk, replicate, None};
+ghost use Rattle.std.specs.Prelude.{◌≡◌, suc, length, take, drop, ◌++◌, slice_index_or, ◌+◌, ◌*◌, ◌<◌, ◌^◌, map, ℕ, IfOk, OnOk, replicate, None};
+ghost use Rattle.c_store.specs.Held.{cells_in};
 ghost use Rattle.c_store.specs.Cells.{slot_of, cell_of, is_inside, is_same, is_one_array, literal_cells, signed_char, IsPlace, Ascending};
 
-use crate::instance::Instance;
+use crate::instance::{Held, Instance};
 use crate::value::{Fault, MakeErr, Order, Pointer, Value};
 use std::alloc::{AllocError, Global};
 use std::marker::Model;
@@ -29,6 +30,7 @@ impl Model for Store {
 
 impl Store {
     ghost use Rattle.std.specs.Prelude.{◌≡◌, [], OnErr, OnOk, IfOk, ◌<◌, ◌≤◌, ◌-◌, ◌+◌, ◌*◌, ◌^◌, length, true, false, replicate, None};
+    ghost use Rattle.c_store.specs.Held.{cells_in};
     ghost use Rattle.c_store.specs.Cells.{Cells, IsStore, IsLive, IsPointer, cell_count, read_of, write_of, made, ended, selected, stepped, compared, differed, literal_cells, IsWritten, IsMade, IsPlace, IsElement, cell_of};
 
     /// An empty store, in which at most so many cells may live. It costs a few machine instructions.
@@ -45,6 +47,7 @@ impl Store {
     }
 
     /// How many cells live. It costs a few machine instructions.
+    #[inline(always)]
     pub fn live(&self) -> u32
         ensures count { result ≡ cell_count self.now.live }
         ensures sound { IsStore self.now }
@@ -52,20 +55,20 @@ impl Store {
         self.used
     }
 
-    /// The value of a cell: first its instance must live, then the element lie in it, then the cell have a value. It costs a few machine instructions beside the look-up of the instance, which passes the live ones that were made later, or is at once where all that were made before it live.
+    /// The value of a cell: first its instance must live, then the element lie in it, then the cell have a value. It costs a few machine instructions beside the look-up of the instance, which is at once where all that were made before it live, or all that were made after it, and else takes the logarithm of the live ones.
+    #[inline]
     pub fn read(&self, at: Pointer) -> Result<Value, Fault>
         ensures { result ≡ read_of self.now at }
     {
         let i = self.element(at)?;
-        let instance = &self.instances[i];
-        match instance.cells.get(cell(at) as usize) {
-            None => Err(Fault::OutOfBounds),
-            Some(None) => Err(Fault::Uninitialised),
-            Some(Some(value)) => Ok(*value),
+        match self.instances[i].cells.get(cell(at) as usize) {
+            None => Err(Fault::Uninitialised),
+            Some(value) => Ok(*value),
         }
     }
 
     /// Gives a cell a value: first its instance must live, then the element lie in it, then the instance be no literal's. It costs what a read costs.
+    #[inline]
     pub fn write(&mut self, at: Pointer, value: Value) -> Result<(), Fault>
         ensures is { IsWritten result self.new (write_of self.old at value) }
         ensures kept { OnErr result (self.new ≡ self.old) }
@@ -75,7 +78,7 @@ impl Store {
         if !instance.writable {
             return Err(Fault::WriteLiteral);
         }
-        instance.cells[cell(at) as usize] = Some(value);
+        instance.cells.set(cell(at) as usize, value);
         Ok(())
     }
 
@@ -104,23 +107,25 @@ impl Store {
             return Err(MakeErr::Room);
         }
         match literal(self.alloc, bytes) {
-            Ok(values) => self.keep(false, values),
+            Ok(values) => self.keep(false, Held::Many(values)),
             Err(_) => Err(MakeErr::NoMemory),
         }
     }
 
-    /// Ends an instance. It costs what its cells cost, and a step for each live one that was made later.
+    /// Ends an instance. It costs what its cells and its look-up cost, and a step for each live one that was made later.
     pub fn end(&mut self, instance: u64)
         requires { IsLive instance self.old }
         ensures { self.new ≡ ended self.old instance }
     {
         if let Some(i) = self.place(instance) {
-            let ended = self.instances.remove(i);
+            let ended = taken(&mut self.instances, i);
             self.used -= ended.cells.len() as u32;
+            drop(ended);
         }
     }
 
     /// The part of an element that begins at the offset, as an array of `length` elements of `size` cells. It costs what a read costs.
+    #[inline]
     pub fn select(&self, at: Pointer, offset: u32, length: u32, size: u32) -> Result<Pointer, Fault>
         requires { offset + length * size ≤ at.size }
         ensures { result ≡ selected self.now at offset length size }
@@ -137,6 +142,7 @@ impl Store {
     }
 
     /// The pointer as many elements further on, from the array's first to one past its last. It costs a few machine instructions.
+    #[inline]
     pub fn step_pointer(&self, from: Value, by: i128) -> Result<Value, Fault>
         requires { IsPointer from }
         ensures { result ≡ stepped from by }
@@ -155,6 +161,7 @@ impl Store {
     }
 
     /// Compares two pointers: `==` and `!=` their cells, the others their places in one array. It costs a few machine instructions.
+    #[inline]
     pub fn compare(&self, order: Order, a: Value, b: Value) -> Result<bool, Fault>
         requires left { IsPointer a }
         requires right { IsPointer b }
@@ -171,6 +178,7 @@ impl Store {
     }
 
     /// How many elements of one array the left pointer stands after the right. It costs a few machine instructions.
+    #[inline]
     pub fn difference(&self, a: Value, b: Value) -> Result<i128, Fault>
         requires left { IsPointer a }
         requires right { IsPointer b }
@@ -189,10 +197,10 @@ impl Store {
     }
 
     // A new instance of these cells, for which there is room.
-    fn keep(&mut self, writable: bool, cells: Vec<Option<Value>>) -> Result<u64, MakeErr>
+    fn keep(&mut self, writable: bool, cells: Held) -> Result<u64, MakeErr>
         requires fewer { self.old.count < 2 ^ 64 - 1 }
-        requires room { cell_count self.old.live + length cells.items ≤ self.old.most }
-        ensures is { IsMade result self.new (made self.old writable cells.items) }
+        requires room { cell_count self.old.live + length (cells_in cells) ≤ self.old.most }
+        ensures is { IsMade result self.new (made self.old writable (cells_in cells)) }
         ensures kept { OnErr result (self.new ≡ self.old) }
     {
         let number = self.count + 1;
@@ -213,6 +221,7 @@ impl Store {
     }
 
     // Where the instance stands whose cells hold the pointer's element.
+    #[inline(always)]
     fn element(&self, at: Pointer) -> Result<usize, Fault>
         ensures element { IsElement at self.now.live result }
         ensures small { IfOk result (λ i. cell_of at + at.size < 2 ^ 32) }
@@ -230,6 +239,7 @@ impl Store {
     }
 
     // Where a live instance stands.
+    #[inline(always)]
     fn place(&self, number: u64) -> Option<usize>
         ensures { IsPlace number self.now.live result }
     {
@@ -238,33 +248,81 @@ impl Store {
 }
 
 // The same in a list in which the numbers ascend.
+#[inline(always)]
 fn place_in(instances: &[Instance], number: u64) -> Option<usize>
     requires { (top : ℕ) × Ascending 0 top (map slot_of instances.now) }
     ensures { IsPlace number (map slot_of instances.now) result }
 {
     // The first ones, which never end, stand at their number less one.
-    if number != 0 && number - 1 < instances.len() as u64 {
-        let hint = (number - 1) as usize;
-        if instances[hint].number == number {
-            return Some(hint);
+    let first = number.wrapping_sub(1);
+    if first < instances.len() as u64 && instances[first as usize].number == number {
+        return Some(first as usize);
+    }
+    place_behind(instances, number)
+}
+
+// The same for one that does not stand at its number less one.
+#[inline]
+fn place_behind(instances: &[Instance], number: u64) -> Option<usize>
+    requires { (top : ℕ) × Ascending 0 top (map slot_of instances.now) }
+    ensures { IsPlace number (map slot_of instances.now) result }
+{
+    let count = instances.len();
+    if count == 0 {
+        return None;
+    }
+    // The active call's own stand as far from the last one as their numbers, where none between them has ended.
+    let back = instances[count - 1].number.wrapping_sub(number);
+    if back < count as u64 {
+        let near = count - 1 - back as usize;
+        if instances[near].number == number {
+            return Some(near);
         }
     }
-    let mut i = instances.len();
-    while i > 0 {
-        i -= 1;
-        let found = instances[i].number;
+    searched(instances, number)
+}
+
+// The same by halves.
+#[inline(never)]
+fn searched(instances: &[Instance], number: u64) -> Option<usize>
+    requires { (top : ℕ) × Ascending 0 top (map slot_of instances.now) }
+    ensures { IsPlace number (map slot_of instances.now) result }
+{
+    let mut low = 0;
+    let mut high = instances.len();
+    // The first look is near the end, where the active call's own stand.
+    let mut look = high.saturating_sub(4);
+    while low < high {
+        let found = instances[look].number;
         if found == number {
-            return Some(i);
+            return Some(look);
         }
         if found < number {
-            return None;
+            low = look + 1;
+        } else {
+            high = look;
         }
+        look = low + (high - low) / 2;
     }
     None
 }
 
-// The cell that a pointer stands at, counted from its instance's first.
+// Takes an instance out: nearly always the last one.
 #[inline]
+fn taken(instances: &mut Vec<Instance>, i: usize) -> Instance
+    requires { i < length instances.old.items }
+    ensures value { result ≡ slice_index_or instances.old.items i result }
+    ensures rest { instances.new.items ≡ take i instances.old.items ++ drop (suc i) instances.old.items }
+{
+    if i + 1 == instances.len() {
+        instances.pop().unwrap()
+    } else {
+        instances.remove(i)
+    }
+}
+
+// The cell that a pointer stands at, counted from its instance's first.
+#[inline(always)]
 fn cell(at: Pointer) -> u64
     ensures value { result ≡ cell_of at }
     ensures small { result + at.size < 2 ^ 64 }
@@ -273,7 +331,7 @@ fn cell(at: Pointer) -> u64
 }
 
 // The pointer stands at an element of its array, whose cells are among as many as counted.
-#[inline]
+#[inline(always)]
 fn inside(at: Pointer, cells: usize) -> bool
     ensures { result ≡ is_inside at cells }
 {
@@ -282,10 +340,14 @@ fn inside(at: Pointer, cells: usize) -> bool
 }
 
 // As many cells without value.
-fn no_values(alloc: Global, count: u32) -> Result<Vec<Option<Value>>, AllocError>
-    ensures { IfOk result (λ v. v.items ≡ replicate count None) }
+#[inline]
+fn no_values(alloc: Global, count: u32) -> Result<Held, AllocError>
+    ensures { IfOk result (λ h. cells_in h ≡ replicate count None) }
 {
-    vec![in alloc; None; count as usize]
+    if count == 1 {
+        return Ok(Held::Unset);
+    }
+    Ok(Held::Many(vec![in alloc; None; count as usize]?))
 }
 
 // The cells of a string literal.
@@ -312,7 +374,7 @@ fn signed_char(byte: u8) -> i128
 }
 
 // The pointers go through one array.
-#[inline]
+#[inline(always)]
 fn one_array(p: Pointer, q: Pointer) -> bool
     ensures { result ≡ is_one_array p q }
 {
@@ -320,7 +382,7 @@ fn one_array(p: Pointer, q: Pointer) -> bool
 }
 
 // Both are null, or both stand at one cell of one instance.
-#[inline]
+#[inline(always)]
 fn same(a: Value, b: Value) -> bool
     ensures { result ≡ is_same a b }
 {

@@ -5,7 +5,7 @@
 ghost use Rattle.std.specs.Prelude.{◌<◌, ◌≤◌, ◌+◌, ◌^◌};
 
 use c_store::store::Store;
-use c_store::value::{MakeErr, Pointer, Value};
+use c_store::value::{Fault, MakeErr, Pointer, Value};
 use std::alloc::{AllocError, Global};
 use std::io;
 
@@ -15,8 +15,8 @@ const MOST: u32 = 1_048_576;
 // The cells of the object that is written and read.
 const CELLS: u32 = 1_000;
 
-// The scalars that live beside it.
-const SCALARS: u32 = 1_000;
+// The scalars that are made one after the other.
+const SCALARS: u32 = 500;
 
 fn cell(instance: u64, index: u32) -> Pointer {
     Pointer {
@@ -38,12 +38,24 @@ fn scalar(instance: u64) -> Pointer {
     }
 }
 
+// A read as a call of its own, of which the loop round it knows nothing.
+#[inline(never)]
+fn one_read(store: &Store, at: Pointer) -> Result<Value, Fault> {
+    store.read(at)
+}
+
+// The same of a write.
+#[inline(never)]
+fn one_write(store: &mut Store, at: Pointer, value: Value) -> Result<(), Fault> {
+    store.write(at, value)
+}
+
 // Writes so many cells, one behind the other and from the first again, and says how many were written.
 fn writes(store: &mut Store, instance: u64, times: u32) -> u32 {
     let mut done: u32 = 0;
     for i in 0..times {
         let value = Value::Int(i128::from(i % 7));
-        if store.write(cell(instance, i % CELLS), value).is_ok() {
+        if one_write(store, cell(instance, i % CELLS), value).is_ok() {
             done = done.saturating_add(1);
         }
     }
@@ -54,7 +66,7 @@ fn writes(store: &mut Store, instance: u64, times: u32) -> u32 {
 fn reads(store: &Store, instance: u64, times: u32) -> u32 {
     let mut threes: u32 = 0;
     for i in 0..times {
-        if store.read(cell(instance, i % CELLS)) == Ok(Value::Int(3)) {
+        if one_read(store, cell(instance, i % CELLS)) == Ok(Value::Int(3)) {
             threes = threes.saturating_add(1);
         }
     }
@@ -78,7 +90,7 @@ fn scalar_reads(store: &Store, first: u64, times: u32) -> u32 {
     let mut threes: u32 = 0;
     for i in 0..times {
         let instance = first.saturating_add(u64::from(i % 8));
-        if store.read(scalar(instance)) == Ok(Value::Int(3)) {
+        if one_read(store, scalar(instance)) == Ok(Value::Int(3)) {
             threes = threes.saturating_add(1);
         }
     }
@@ -100,12 +112,14 @@ fn scalars(store: &mut Store, times: u32) -> u32
     done
 }
 
-// Makes scalars, of which each eighth holds a 3, and gives the last one's number.
-#[tactic(auto, using(crate::proofs::Made::counted))]
+// Makes scalars, of which each eighth holds a 3, behind one that has ended, and gives the last one's number.
+#[tactic(auto, using(crate::proofs::Made::counted, crate::proofs::Made::lives))]
 fn with_scalars(store: &mut Store) -> Result<u64, MakeErr>
     requires { store.old.count < 2 ^ 62 }
-    ensures { store.new.count ≤ store.old.count + 1000 }
+    ensures { store.new.count ≤ store.old.count + 501 }
 {
+    let ended = store.make(1)?;
+    store.end(ended);
     let mut last: u64 = 0;
     for i in 0..SCALARS {
         last = store.make(1)?;
@@ -126,11 +140,10 @@ fn with_object(alloc: Global) -> Result<(Store, u64), MakeErr> {
 #[tactic(auto, using(crate::proofs::Made::counted, crate::proofs::Made::lives))]
 fn worked_with_scalars(alloc: Global, kind: &str, times: u32) -> Result<Option<u32>, MakeErr> {
     let mut store = Store::new(alloc, MOST);
-    let ended = store.make(1)?;
-    store.end(ended);
+    let middle = with_scalars(&mut store)?;
     let last = with_scalars(&mut store)?;
     match kind {
-        "middle" => Ok(Some(scalar_reads(&store, last.saturating_sub(500), times))),
+        "middle" => Ok(Some(scalar_reads(&store, middle.saturating_sub(250), times))),
         "last" => Ok(Some(scalar_reads(&store, last.saturating_sub(7), times))),
         "scalars" => Ok(Some(scalars(&mut store, times))),
         _ => Ok(None),
