@@ -1,4 +1,4 @@
-ghost use Rattle.std.specs.Prelude.{◌≡◌, ◌<◌, length, slice_get, slice_set, option_copied, Some};
+ghost use Rattle.std.specs.Prelude.{◌≡◌, ◌<◌, length, slice_set, Some};
 ghost use Rattle.c_store.specs.Held.{cells_in};
 
 use crate::value::Value;
@@ -28,19 +28,6 @@ impl Held {
         match self {
             Held::Unset | Held::One(_) => 1,
             Held::Many(cells) => cells.len(),
-        }
-    }
-
-    /// The value of a cell, if it has one. It costs a few machine instructions.
-    #[inline(always)]
-    pub fn get(&self, index: usize) -> Option<&Value>
-        requires { index < length (cells_in self.now) }
-        ensures { slice_get (cells_in self.now) index ≡ Some (option_copied result) }
-    {
-        match self {
-            Held::Unset => None,
-            Held::One(value) => Some(value),
-            Held::Many(cells) => cells[index].as_ref(),
         }
     }
 

@@ -1,6 +1,6 @@
-ghost use Rattle.std.specs.Prelude.{◌≡◌, suc, length, take, drop, ◌++◌, slice_index_or, ◌+◌, ◌*◌, ◌<◌, ◌^◌, map, ℕ, IfOk, OnOk, replicate, None};
+ghost use Rattle.std.specs.Prelude.{◌≡◌, suc, length, take, drop, ◌++◌, slice_index_or, ◌+◌, ◌*◌, ◌<◌, ◌^◌, map, ℕ, IfOk, Some, OnOk, replicate, None};
 ghost use Rattle.c_store.specs.Held.{cells_in};
-ghost use Rattle.c_store.specs.Cells.{slot_of, cell_of, is_inside, is_same, is_one_array, literal_cells, signed_char, IsPlace, Ascending};
+ghost use Rattle.c_store.specs.Cells.{slot_of, cell_of, is_inside, is_same, is_one_array, literal_cells, signed_char, IsPlace, Ascending, Slot, element_in, read_in};
 
 use crate::instance::{Held, Instance};
 use crate::value::{Fault, MakeErr, Order, Pointer, Value};
@@ -56,19 +56,18 @@ impl Store {
     }
 
     /// The value of a cell: first its instance must live, then the element lie in it, then the cell have a value. It costs a few machine instructions beside the look-up of the instance, which is at once where all that were made before it live, or all that were made after it, and else takes the logarithm of the live ones.
-    #[inline]
+    #[inline(always)]
     pub fn read(&self, at: Pointer) -> Result<Value, Fault>
         ensures { result ≡ read_of self.now at }
     {
-        let i = self.element(at)?;
-        match self.instances[i].cells.get(cell(at) as usize) {
-            None => Err(Fault::Uninitialised),
-            Some(value) => Ok(*value),
-        }
+        let Some(i) = self.place(at.instance) else {
+            return Err(Fault::Dangling);
+        };
+        value_in(&self.instances[i].cells, at)
     }
 
     /// Gives a cell a value: first its instance must live, then the element lie in it, then the instance be no literal's. It costs what a read costs.
-    #[inline]
+    #[inline(always)]
     pub fn write(&mut self, at: Pointer, value: Value) -> Result<(), Fault>
         ensures is { IsWritten result self.new (write_of self.old at value) }
         ensures kept { OnErr result (self.new ≡ self.old) }
@@ -318,6 +317,38 @@ fn taken(instances: &mut Vec<Instance>, i: usize) -> Instance
         instances.pop().unwrap()
     } else {
         instances.remove(i)
+    }
+}
+
+// The value of the pointer's cell, of an instance with these cells.
+#[inline(always)]
+fn value_in(cells: &Held, at: Pointer) -> Result<Value, Fault>
+    ensures { (s : Slot) → s.cells ≡ cells_in cells.now → result ≡ read_in (element_in (Some s) at) at }
+{
+    match cells {
+        Held::Unset => {
+            if inside(at, 1) {
+                Err(Fault::Uninitialised)
+            } else {
+                Err(Fault::OutOfBounds)
+            }
+        }
+        Held::One(value) => {
+            if inside(at, 1) {
+                Ok(*value)
+            } else {
+                Err(Fault::OutOfBounds)
+            }
+        }
+        Held::Many(cells) => {
+            if !inside(at, cells.len()) {
+                return Err(Fault::OutOfBounds);
+            }
+            match &cells[cell(at) as usize] {
+                None => Err(Fault::Uninitialised),
+                Some(value) => Ok(*value),
+            }
+        }
     }
 }
 

@@ -5,7 +5,7 @@
 ghost use Rattle.std.specs.Prelude.{◌<◌, ◌≤◌, ◌+◌, ◌^◌};
 
 use c_store::store::Store;
-use c_store::value::{Fault, MakeErr, Pointer, Value};
+use c_store::value::{MakeErr, Pointer, Value};
 use std::alloc::{AllocError, Global};
 use std::io;
 
@@ -38,24 +38,12 @@ fn scalar(instance: u64) -> Pointer {
     }
 }
 
-// A read as a call of its own, of which the loop round it knows nothing.
-#[inline(never)]
-fn one_read(store: &Store, at: Pointer) -> Result<Value, Fault> {
-    store.read(at)
-}
-
-// The same of a write.
-#[inline(never)]
-fn one_write(store: &mut Store, at: Pointer, value: Value) -> Result<(), Fault> {
-    store.write(at, value)
-}
-
 // Writes so many cells, one behind the other and from the first again, and says how many were written.
 fn writes(store: &mut Store, instance: u64, times: u32) -> u32 {
     let mut done: u32 = 0;
     for i in 0..times {
         let value = Value::Int(i128::from(i % 7));
-        if one_write(store, cell(instance, i % CELLS), value).is_ok() {
+        if store.write(cell(instance, i % CELLS), value).is_ok() {
             done = done.saturating_add(1);
         }
     }
@@ -66,7 +54,7 @@ fn writes(store: &mut Store, instance: u64, times: u32) -> u32 {
 fn reads(store: &Store, instance: u64, times: u32) -> u32 {
     let mut threes: u32 = 0;
     for i in 0..times {
-        if one_read(store, cell(instance, i % CELLS)) == Ok(Value::Int(3)) {
+        if store.read(cell(instance, i % CELLS)) == Ok(Value::Int(3)) {
             threes = threes.saturating_add(1);
         }
     }
@@ -90,7 +78,7 @@ fn scalar_reads(store: &Store, first: u64, times: u32) -> u32 {
     let mut threes: u32 = 0;
     for i in 0..times {
         let instance = first.saturating_add(u64::from(i % 8));
-        if one_read(store, scalar(instance)) == Ok(Value::Int(3)) {
+        if store.read(scalar(instance)) == Ok(Value::Int(3)) {
             threes = threes.saturating_add(1);
         }
     }
