@@ -261,7 +261,7 @@ fn place_in(instances: &[Instance], number: u64) -> Option<usize>
 }
 
 // The same for one that does not stand at its number less one.
-#[inline]
+#[inline(always)]
 fn place_behind(instances: &[Instance], number: u64) -> Option<usize>
     requires { (top : ℕ) × Ascending 0 top (map slot_of instances.now) }
     ensures { IsPlace number (map slot_of instances.now) result }
