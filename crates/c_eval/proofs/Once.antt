@@ -10,16 +10,22 @@ use Rattle.c_cut.specs.Numbers.{value as worth, is_suffix}
 use Rattle.c_kinds.specs.declared.kinds.Radix.TheVariants.{Decimal}
 use Rattle.c_values.specs.Numbers.{number_of, number_in}
 use Rattle.c_syntax.specs.declared.text.Text.{Text}
-use Rattle.c_syntax.specs.Shape.{TypeOf, int, pointer, node, leaf, name, typed}
+use Rattle.c_syntax.specs.declared.tree.Expr.{Expr}
+use Rattle.c_syntax.specs.declared.tree.Expr.TheVariants.{Name}
+use Rattle.c_syntax.specs.declared.tree.Note.{Note}
+use Rattle.c_syntax.specs.declared.tree.Note.TheVariants.{Typed}
+use Rattle.c_syntax.specs.declared.tree.CType.{CType}
+use Rattle.c_syntax.specs.View.{note_shape, expr_shape, type_of}
+use Rattle.c_syntax.specs.Shape.{TypeOf, int, pointer, array, node, leaf, name, typed}
 use Rattle.c_store.specs.declared.value.Value.{Value}
-use Rattle.c_store.specs.declared.value.Value.TheVariants.{Int}
+use Rattle.c_store.specs.declared.value.Value.TheVariants.{Int, At}
 use Rattle.c_store.specs.declared.value.Pointer.{Pointer}
 use Rattle.c_store.specs.declared.value.Fault.{Fault}
 use Rattle.c_store.specs.Cells.{read_of}
 use Rattle.c_tree.specs.Tables.{TablesShape}
 use Rattle.c_meaning.specs.State.{State, instance_of}
-use Rattle.c_meaning.specs.Results.{Got, Gives, Stops, then_do, present, settled, untyped}
-use Rattle.c_meaning.specs.Places.{whole, object_at}
+use Rattle.c_meaning.specs.Results.{Got, Gives, Stops, then_do, turn, present, settled, untyped}
+use Rattle.c_meaning.specs.Places.{whole, object_at, variable_place, first_element}
 use Rattle.c_meaning.specs.Knot.{Knot}
 use Rattle.c_meaning.specs.Expressions.{gives, number_value}
 use Rattle.atac_base.specs.declared.probes.Event.{Event}
@@ -109,3 +115,13 @@ no_scalar v s s' e i = rw (e, sym i) refl
 
 pub a_scalar : (v j : ℕ) (r : Result Value Fault) (s s' : State) → s ≡ one_more s' → Some j ≡ instance_of v s' → r ≡ read_of s'.store (whole j 1) → scalar_value v s ≡ settled r s'
 a_scalar v j r s s' e i f = rw (e, sym i, sym f) refl
+
+-- ---- variables that are arrays
+
+pub array_is : (t : TablesShape) (k : Knot) (p o : Pos) (y e : TypeOf) (m v : ℕ) (x : Text) (s : State) → y ≡ array e m → value t k (node p o (typed y (Some v)) (leaf (name x))) s ≡ then_do (turn s (variable_place t y v)) (λ q s. then_do (first_element t e m q s) (λ q. gives (At q)))
+array_is t k p o y e m v x s is = rw is refl
+
+pub array_named : (t : TablesShape) (k : Knot) (p o : Pos) (n : Note) (f : Expr) (y : CType) (i : Option ℕ) (v : ℕ) (x : Text) (s s' : State) (r : Reply) → f ≡ Name x → n ≡ Typed y i → i ≡ Some v
+    → ((p o : Pos) (x : Text) → value t k (node p o (typed (type_of y) (Some v)) (leaf (name x))) s ≡ then_do (replied r s') gives)
+    → value t k (node p o (note_shape n) (expr_shape f)) s ≡ then_do (replied r s') gives
+array_named t k p o n f y i v x s s' r is noted same h = rw (is, noted, same) (h p o x)

@@ -1,8 +1,11 @@
 //! Operands without operands, whose turn and value are taken at once.
 
-ghost use Rattle.std.specs.Prelude.{◌≡◌, ◌≤◌, ◌<◌, List, Option, true, IfSome};
+ghost use Rattle.std.specs.Prelude.{◌≡◌, ◌≤◌, ◌<◌, List, Option, Some, true, IfSome};
 ghost use Rattle.atac_base.specs.declared.probes.Event.{Event};
+ghost use Rattle.atac_base.specs.declared.place.Pos.{Pos};
+ghost use Rattle.c_syntax.specs.declared.text.Text.{Text};
 ghost use Rattle.c_syntax.specs.View.{node_shape, type_of};
+ghost use Rattle.c_syntax.specs.Shape.{array, node, leaf, name, typed};
 ghost use Rattle.c_tree.specs.Tables.{TablesShape, tables_shape};
 ghost use Rattle.c_meaning.specs.State.{State};
 ghost use Rattle.c_meaning.specs.Results.{then_do, turn};
@@ -17,10 +20,10 @@ ghost use Rattle.c_eval.specs.Forms.{Kept, is_leaf, scalar_value, IsAtOnce, IsPl
 use crate::frame::Reply;
 use crate::leaf::{leaf, variable};
 use c_meaning::end::Stop;
-use c_store::value::{Fault, Pointer};
+use c_store::value::{Fault, Pointer, Value};
 use c_syntax::tree::{CType, Expr, Node, Note};
 use c_tree::tables::Tables;
-use c_world::places::whole;
+use c_world::places::{cells_in, whole};
 use c_world::world::World;
 
 /// The value of a constant, a literal, a `sizeof` or a variable of scalar type (C89, 3.3.1), whose turn is taken; `None` for
@@ -113,4 +116,53 @@ fn place(tables: &Tables, world: &mut World, kind: &CType, number: u32) -> Resul
         return Err(Stop::Turns);
     }
     variable(tables, world, kind, number)
+}
+
+/// The pointer to the first element of a variable that is an array (C89, 3.2.2.1), whose turn is taken; `None` for any
+/// other node, and nothing is done.
+#[inline(always)]
+pub fn array_at_once(tables: &Tables, world: &mut World, node: &Node) -> Option<Reply>
+    ensures is { (k : Knot) (h : List Event) → IsAtOnce result (tables_shape tables.now) k (node_shape node.now) (state_of world.old h) (state_of world.new h) }
+    ensures kept { Kept world.old world.new }
+    ensures turns { world.new.turns ≤ world.old.turns }
+{
+    match &node.form {
+        Expr::Name(_) => match &node.note {
+            Note::Typed(kind, named) => match named {
+                None => None,
+                Some(number) => match kind {
+                    CType::Array(of, length) => {
+                        Some(array_value(tables, world, kind, of, *length, *number))
+                    }
+                    _ => None,
+                },
+            },
+            _ => None,
+        },
+        _ => None,
+    }
+}
+
+// The turn and the value of a variable that is an array.
+#[inline(always)]
+fn array_value(
+    tables: &Tables,
+    world: &mut World,
+    kind: &CType,
+    of: &CType,
+    length: u32,
+    number: u32,
+) -> Reply
+    requires { type_of kind.now ≡ array (type_of of.now) length }
+    ensures is { (k : Knot) (p o : Pos) (x : Text) (h : List Event) → value (tables_shape tables.now) k (node p o (typed (type_of kind.now) (Some number)) (leaf (name x))) (state_of world.old h) ≡ then_do (replied result (state_of world.new h)) gives }
+    ensures kept { Kept world.old world.new }
+    ensures turns { world.new.turns ≤ world.old.turns }
+{
+    match place(tables, world, kind, number) {
+        Err(why) => Reply::Stopped(why),
+        Ok(at) => match world.select(at, 0, length, cells_in(tables, of)) {
+            Ok(first) => Reply::Value(Value::At(first)),
+            Err(why) => Reply::Stopped(why),
+        },
+    }
 }

@@ -28,12 +28,15 @@ use c_syntax::tree::Node;
 use c_tree::tables::Tables;
 use c_world::world::World;
 use std::alloc::Global;
+use std::mem;
 
-/// One expression, as far as it has come, with what waits for its operands, the last one on top.
+/// One expression, as far as it has come, with what waits for its operands, the last one on top; and a list that is done
+/// with, for the arguments of the next call.
 #[derive(Drop)]
 pub struct Work<'p> {
     pub focus: Focus<'p>,
     pub stack: Vec<Frame<'p>>,
+    pub spare: Vec<Value>,
     pub alloc: Global,
 }
 
@@ -47,6 +50,7 @@ impl<'p> Work<'p> {
         Work {
             focus: Focus::Value(node),
             stack: Vec::new(alloc),
+            spare: Vec::new(alloc),
             alloc,
         }
     }
@@ -95,6 +99,17 @@ impl<'p> Work<'p> {
                 Ok(step)
             }
         }
+    }
+
+    // An empty list, in the room of the one that is done with.
+    #[inline(always)]
+    pub(super) fn list(&mut self) -> Vec<Value>
+        ensures empty { result.items ≡ [] }
+        ensures stack { self.new.stack ≡ self.old.stack }
+    {
+        let mut list = mem::replace(&mut self.spare, Vec::new(self.alloc));
+        list.clear();
+        list
     }
 
     // A frame on top.

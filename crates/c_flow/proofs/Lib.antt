@@ -8,3 +8,4 @@ pub mod Begun
 pub mod Turns
 pub mod Entered
 pub mod Filled
+pub mod Spare

@@ -40,7 +40,8 @@ impl<'p> Work<'p> {
         ensures kept { OnOk result (Kept world.old world.new) }
     {
         let kinds = params(tables, &node.note);
-        let step = self.arguments(tables, world, node, kinds, args, Vec::new(self.alloc))?;
+        let done = self.list();
+        let step = self.arguments(tables, world, node, kinds, args, done)?;
         Ok(step)
     }
 
@@ -132,7 +133,9 @@ impl<'p> Work<'p> {
         if row.defined.is_some() {
             return Ok(Step::Call(*number, args));
         }
-        match built_in(world, row.name.bytes(), &args)? {
+        let given = built_in(world, row.name.bytes(), &args)?;
+        self.spare = args;
+        match given {
             Ok(value) => Ok(self.now(value)),
             Err(why) => Ok(Step::Stopped(why)),
         }

@@ -19,7 +19,7 @@ use super::{Begun, Machine};
 use crate::marks::log_marks;
 use crate::parts::{Active, Step, Use, Waiting};
 use atac_base::place::NoMemory;
-use c_eval::frame::Focus;
+use c_eval::frame::{Focus, Frame};
 use c_eval::work::Work;
 use c_meaning::end::Stop;
 use c_plan::plan::Plan;
@@ -50,10 +50,12 @@ impl<'p> Machine<'p> {
             work: Work {
                 focus: Focus::Given(None),
                 stack: Vec::new(alloc),
+                spare: Vec::new(alloc),
                 alloc,
             },
             used: Use::Discard,
             waiting: Vec::new(alloc),
+            spare: Vec::new(alloc),
         };
         match machine.enter(plan, world, function, &[])? {
             Step::More => Ok(Begun::Running(machine)),
@@ -77,12 +79,29 @@ impl<'p> Machine<'p> {
         ensures falls { IfOk result (λ a. OnMore a (12 * world.new.turns + machine_size self.new < 12 * world.old.turns + 3 + 3 * weights self.old.work.stack.items + all_weights self.old.waiting.items)) }
         ensures same { OnOk result (Same world.old world.new) }
     {
-        let alloc = self.work.alloc;
         let used = self.used;
-        let frames = mem::replace(&mut self.work.stack, Vec::new(alloc));
+        let empty = self.empty_stack();
+        let frames = mem::replace(&mut self.work.stack, empty);
         self.wait(Waiting::Caller(function, frames, used))?;
         let step = self.enter(plan, world, function, &args)?;
+        self.work.spare = args;
         Ok(step)
+    }
+
+    // An empty stack, in the room of one that is done with.
+    #[inline(always)]
+    fn empty_stack(&mut self) -> Vec<Frame<'p>>
+        ensures empty { result.items ≡ [] }
+        ensures same { self.new ≡ record self.old { spare = self.new.spare } }
+    {
+        match self.spare.pop() {
+            None => Vec::new(self.work.alloc),
+            Some(stack) => {
+                let mut stack = stack;
+                stack.clear();
+                stack
+            }
+        }
     }
 
     // The function is entered, where there is one with that number.

@@ -22,6 +22,7 @@ use c_store::value::Value;
 use c_syntax::tree::CType;
 use c_tree::tables::Tables;
 use c_world::world::World;
+use std::mem;
 
 impl<'p> Machine<'p> {
     // A function that was called is left: its result is for what waits in its caller (C89, 3.6.6.4).
@@ -45,7 +46,8 @@ impl<'p> Machine<'p> {
             None => untyped(),
             Some(value) => {
                 world.leave();
-                self.work.stack = frames;
+                let done = mem::replace(&mut self.work.stack, frames);
+                let _ = self.spare.push(done);
                 self.work.resume(value);
                 self.used = used;
                 self.active = Active::Busy;

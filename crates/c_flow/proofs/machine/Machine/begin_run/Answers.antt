@@ -18,7 +18,7 @@ returns-in-More-clause-left c = λ h.
     let s = state_of c.args.world.now h in
     ap (λ a. left_after t k a c.enter.new.self (state_of c.enter.new.world h)) (sym c.in-More.is)
     ∙ c.in_ok-enter.ensures.left h
-    ∙ ap (λ ws. then_do (entered_flow t k f (routine (source_of p) silent f) [] s) (all_wait t k ws (at_end t f))) c.new-2.ensures.items
+    ∙ ap (λ ws. then_do (entered_flow t k f (routine (source_of p) silent f) [] s) (all_wait t k ws (at_end t f))) c.new-3.ensures.items
     ∙ called_is p f [] s
 
 pub returns-in-Stopped-clause-left : goal.returns-in-Stopped-clause-left
@@ -30,5 +30,5 @@ returns-in-Stopped-clause-left c = λ h.
     let s = state_of c.args.world.now h in
     ap (λ a. left_after t k a c.enter.new.self (state_of c.enter.new.world h)) (sym c.in-Stopped.is)
     ∙ c.in_ok-enter.ensures.left h
-    ∙ ap (λ ws. then_do (entered_flow t k f (routine (source_of p) silent f) [] s) (all_wait t k ws (at_end t f))) c.new-2.ensures.items
+    ∙ ap (λ ws. then_do (entered_flow t k f (routine (source_of p) silent f) [] s) (all_wait t k ws (at_end t f))) c.new-3.ensures.items
     ∙ called_is p f [] s

@@ -1,4 +1,4 @@
-use Rattle.std.proofs.Common.{◌≡◌, [], ap, subst, ◌∙◌, arith}
+use Rattle.std.proofs.Common.{◌≡◌, [], ap, subst, ◌∙◌, arith, Vec, Global}
 use Rattle.c_tree.specs.declared.program.Program.{Program}
 use Rattle.c_tree.specs.declared.tables.Tables as tables
 use Rattle.c_tree.specs.Tables.{tables_shape}
@@ -7,6 +7,8 @@ use Rattle.c_meaning.specs.State.{State}
 use Rattle.c_meaning.specs.Results.{Gives, then_do}
 use Rattle.c_meaning.specs.Calls.{left, result_in, returned}
 use Rattle.c_world.specs.World.{state_of}
+use Rattle.c_eval.specs.declared.frame.Frame.{Frame}
+use Rattle.c_eval.specs.Rest.{weights}
 use Rattle.c_flow.specs.Todo.{uses, resumed, knot_of, behind}
 use Rattle.c_flow.proofs.machine.Machine.return_to.Goals as goal
 
@@ -22,8 +24,9 @@ returns-in-Some-clause-left c = λ h.
     let f = c.args.function in
     let found = subst (λ (t : tables.Tables). Gives v (left s) ≡ returned (result_in (row (tables_shape t).functions f)) c.args.flow s) (c.tables.ensures ∙ ap (λ (p : Program). p.tables) c.requires.program) (c.in-Some.ensures s) in
     ap (λ r. then_do r (uses t k u go)) (c.resume.ensures.rest t k (state_of c.leave.new.self h))
+    ∙ ap (λ (fs : Vec Frame Global). resumed t k fs.items u go v (state_of c.leave.new.self h)) c.replace-done.ensures.after
     ∙ ap (λ s. resumed t k c.args.frames.items u go v s) (c.leave.ensures.left h)
     ∙ ap (λ r. then_do r (resumed t k c.args.frames.items u go)) found
 
 pub returns-in-Some-clause-size : goal.returns-in-Some-clause-size
-returns-in-Some-clause-size c = omega (arith, c.resume.ensures.size, ap (λ (s : State). s.turns) (c.leave.ensures.left []))
+returns-in-Some-clause-size c = omega (arith, c.resume.ensures.size, ap (λ (fs : Vec Frame Global). weights fs.items) c.replace-done.ensures.after, ap (λ (s : State). s.turns) (c.leave.ensures.left []))
