@@ -33,20 +33,24 @@ fn only(alloc: Global, n: u64) -> Result<Vec<u64>, AllocError> {
     Ok(which)
 }
 
-// A call over a shelf that holds a program under `p` and an input under `e`.
-fn call(
+/// A call with these words, over a shelf that holds a program under `p` and an input under `e`.
+pub fn call(
     alloc: Global,
-    words: &Vec<String>,
+    words: &[&str],
     program: &[u8],
     input: &[u8],
     fails: Fails,
 ) -> Result<Left, AllocError> {
+    let mut given = Vec::new(alloc);
+    for word in words.iter() {
+        given.push(String::from_str(alloc, word)?)?;
+    }
     let mut shelf = MemoryShelf::new(alloc, only(alloc, fails.fetch)?, Vec::new(alloc));
     let _ = shelf.keep("p", program);
     let _ = shelf.keep("e", input);
     let mut out = MemorySink::new(alloc, only(alloc, fails.put)?);
     let mut err = MemorySink::new(alloc, only(alloc, fails.tell)?);
-    let status = atac(alloc, words, &mut shelf, &mut out, &mut err);
+    let status = atac(alloc, &given, &mut shelf, &mut out, &mut err);
     Ok(Left { status, out, err })
 }
 
@@ -57,17 +61,10 @@ pub fn cover(
     input: &[u8],
     fails: Fails,
 ) -> Result<Left, AllocError> {
-    let mut words = Vec::new(alloc);
-    words.push(String::from_str(alloc, "cover")?)?;
-    words.push(String::from_str(alloc, "p")?)?;
-    words.push(String::from_str(alloc, "e")?)?;
-    call(alloc, &words, program, input, fails)
+    call(alloc, ["cover", "p", "e"].as_slice(), program, input, fails)
 }
 
 /// `check p` with that program.
 pub fn check(alloc: Global, program: &[u8], fails: Fails) -> Result<Left, AllocError> {
-    let mut words = Vec::new(alloc);
-    words.push(String::from_str(alloc, "check")?)?;
-    words.push(String::from_str(alloc, "p")?)?;
-    call(alloc, &words, program, b"", fails)
+    call(alloc, ["check", "p"].as_slice(), program, b"", fails)
 }

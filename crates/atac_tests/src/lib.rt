@@ -8,6 +8,8 @@ mod calls;
 #[cfg(test)]
 mod machine;
 #[cfg(test)]
+mod runs;
+#[cfg(test)]
 mod store;
 #[cfg(test)]
 mod tests;

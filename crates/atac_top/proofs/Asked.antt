@@ -1,48 +1,75 @@
 -- The answers of the commands, as far as their steps have come.
 use Rattle.std.proofs.Common.{◌≡◌, ap, ◌∙◌, append-nil, List, [], ◌∷◌, ◌++◌, ℕ, Option, None, Some}
 use Rattle.first_tree.specs.Shape.{UnitShape}
-use Rattle.atac_top.specs.Words.{Check, Cover}
+use Rattle.c_meaning.specs.Calls.{Source}
+use Rattle.atac_top.specs.Words.{Command, Check, Cover, Run}
 use Rattle.atac_top.specs.Ends.{End, IsDone, NotAccepted}
-use Rattle.atac_top.specs.Programs.{Counts, Reading, Refuses, Counted, Gives, IsUnderstood, counts_text, section, report}
-use Rattle.atac_top.specs.Answers.{Answer, asked, names, text, refused, gets, Got, Gets, Stops, program_most, input_most}
+use Rattle.atac_top.specs.Programs.{Counts, Reading, Refuses, Counted, Runs, Covers, IsUnderstood, counts_text, section, report}
+use Rattle.atac_top.specs.Answers.{Answer, asked, names, text, refused, gets, Got, Gets, Stops, input_most}
 use Rattle.atac_top.specs.Runs.{IsOfGot, Understands}
 
-pub program_stopped : (p i : List ℕ) (fp : Option (List ℕ)) (others : Option (List ℕ)) (e : End) → gets p program_most fp ≡ Stops e
-    → Understands (Some (Cover p i)) (fp ∷ others ∷ []) (Refuses []) × (asked (Some (Cover p i)) (Refuses []) (fp ∷ others ∷ []) ≡ refused [] e)
-program_stopped p i fp others e h = (of_stops (gets p program_most fp) h, rw h)
-  where
-    of_stops : (g : Got) → g ≡ Stops e → IsOfGot (Cover p i) g (Refuses [])
-    of_stops (Stops end) h = tt
-    of_stops (Gets source) h = absurd (let k : Gets source ≡ Stops e = h in cc)
+-- what stops at its program is not understood
+stopped_got : (command : Command) (g : Got) (e : End) → g ≡ Stops e → IsOfGot command g (Refuses [])
+stopped_got command (Stops end) e h = tt
+stopped_got command (Gets source) e h = absurd (let k : Gets source ≡ Stops e = h in cc)
 
-pub understands : (p i : List ℕ) (fp : Option (List ℕ)) (others : List (Option (List ℕ))) (s : List ℕ) (u : Reading) → gets p program_most fp ≡ Gets s → IsUnderstood (Cover p i) s u → Understands (Some (Cover p i)) (fp ∷ others) u
-understands p i fp others s u h is = rw h is
+-- ---- the answer of `cover`
 
-pub cover_refused : (p i : List ℕ) (fp fi : Option (List ℕ)) (s said : List ℕ) → gets p program_most fp ≡ Gets s → asked (Some (Cover p i)) (Refuses said) (fp ∷ fi ∷ []) ≡ refused [] (NotAccepted p said)
-cover_refused p i fp fi s said h = rw h
+module _ (n : ℕ) (p i : List ℕ) (fp fi : Option (List ℕ)) where
+  pub cover_stopped_first : (e : End) → gets p 1048576 fp ≡ Stops e
+      → Understands (Some (Cover n p i)) (fp ∷ fi ∷ []) (Refuses []) × (asked (Some (Cover n p i)) (Refuses []) (fp ∷ fi ∷ []) ≡ refused [] e)
+  cover_stopped_first e h = (stopped_got (Cover n p i) (gets p 1048576 fp) e h, rw h)
 
-module _ (p i : List ℕ) (fp fi : Option (List ℕ)) (s : List ℕ) (P : UnitShape) (h : gets p program_most fp ≡ Gets s) where
-  pub cover_stopped : (e : End) → gets i input_most fi ≡ Stops e → asked (Some (Cover p i)) (Gives P) (fp ∷ fi ∷ []) ≡ refused [] e
-  cover_stopped e l = rw (h, l)
+  module _ (s : List ℕ) (h : gets p 1048576 fp ≡ Gets s) where
+    pub cover_understands : (u : Reading) → IsUnderstood (Cover n p i) s u → Understands (Some (Cover n p i)) (fp ∷ fi ∷ []) u
+    cover_understands u is = rw h is
 
-  pub cover_done : (b : List ℕ) → gets i input_most fi ≡ Gets b
-      → asked (Some (Cover p i)) (Gives P) (fp ∷ fi ∷ []) ≡ record { end = IsDone; sections = section i P b ∷ []; rest = report P b; kept = None }
-  cover_done b l = rw (h, l)
+    pub cover_refused : (said : List ℕ) → asked (Some (Cover n p i)) (Refuses said) (fp ∷ fi ∷ []) ≡ refused [] (NotAccepted p said)
+    cover_refused said = rw h
 
-  pub cover_text : (b : List ℕ) → gets i input_most fi ≡ Gets b → text (asked (Some (Cover p i)) (Gives P) (fp ∷ fi ∷ [])) ≡ section i P b ++ report P b
-  cover_text b l = ap (λ (a : Answer). text a) (cover_done b l) ∙ ap (λ xs. xs ++ report P b) (append-nil (section i P b))
+    module _ (P : Source) (Q : UnitShape) where
+      pub cover_stopped : (e : End) → gets i input_most fi ≡ Stops e → asked (Some (Cover n p i)) (Covers P Q) (fp ∷ fi ∷ []) ≡ refused [] e
+      cover_stopped e l = rw (h, l)
+
+      pub cover_done : (b : List ℕ) → gets i input_most fi ≡ Gets b
+          → asked (Some (Cover n p i)) (Covers P Q) (fp ∷ fi ∷ []) ≡ record { end = IsDone; sections = section i P b n ∷ []; rest = report Q b n; kept = None }
+      cover_done b l = rw (h, l)
+
+      pub cover_text : (b : List ℕ) → gets i input_most fi ≡ Gets b → text (asked (Some (Cover n p i)) (Covers P Q) (fp ∷ fi ∷ [])) ≡ section i P b n ++ report Q b n
+      cover_text b l = ap (λ (a : Answer). text a) (cover_done b l) ∙ ap (λ xs. xs ++ report Q b n) (append-nil (section i P b n))
+
+-- ---- the answer of `run`
+
+module _ (n : ℕ) (p i : List ℕ) (fp fi : Option (List ℕ)) where
+  pub run_stopped_first : (e : End) → gets p 67108864 fp ≡ Stops e
+      → Understands (Some (Run n p i)) (fp ∷ fi ∷ []) (Refuses []) × (asked (Some (Run n p i)) (Refuses []) (fp ∷ fi ∷ []) ≡ refused [] e)
+  run_stopped_first e h = (stopped_got (Run n p i) (gets p 67108864 fp) e h, rw h)
+
+  module _ (s : List ℕ) (h : gets p 67108864 fp ≡ Gets s) where
+    pub run_understands : (u : Reading) → IsUnderstood (Run n p i) s u → Understands (Some (Run n p i)) (fp ∷ fi ∷ []) u
+    run_understands u is = rw h is
+
+    pub run_refused : (said : List ℕ) → asked (Some (Run n p i)) (Refuses said) (fp ∷ fi ∷ []) ≡ refused [] (NotAccepted p said)
+    run_refused said = rw h
+
+    module _ (P : Source) where
+      pub run_stopped : (e : End) → gets i input_most fi ≡ Stops e → asked (Some (Run n p i)) (Runs P) (fp ∷ fi ∷ []) ≡ refused [] e
+      run_stopped e l = rw (h, l)
+
+      pub run_done : (b : List ℕ) → gets i input_most fi ≡ Gets b
+          → asked (Some (Run n p i)) (Runs P) (fp ∷ fi ∷ []) ≡ record { end = IsDone; sections = section i P b n ∷ []; rest = []; kept = None }
+      run_done b l = rw (h, l)
+
+      pub run_text : (b : List ℕ) → gets i input_most fi ≡ Gets b → text (asked (Some (Run n p i)) (Runs P) (fp ∷ fi ∷ [])) ≡ section i P b n
+      run_text b l = ap (λ (a : Answer). text a) (run_done b l) ∙ append-nil (section i P b n ++ []) ∙ append-nil (section i P b n)
 
 -- ---- the answer of `check`
 
-pub check_stopped : (p : List ℕ) (fp : Option (List ℕ)) (e : End) → gets p program_most fp ≡ Stops e
+pub check_stopped : (p : List ℕ) (fp : Option (List ℕ)) (e : End) → gets p 1048576 fp ≡ Stops e
     → Understands (Some (Check p)) (fp ∷ []) (Refuses []) × (asked (Some (Check p)) (Refuses []) (fp ∷ []) ≡ refused [] e)
-check_stopped p fp e h = (of_stops (gets p program_most fp) h, rw h)
-  where
-    of_stops : (g : Got) → g ≡ Stops e → IsOfGot (Check p) g (Refuses [])
-    of_stops (Stops end) h = tt
-    of_stops (Gets source) h = absurd (let k : Gets source ≡ Stops e = h in cc)
+check_stopped p fp e h = (stopped_got (Check p) (gets p 1048576 fp) e h, rw h)
 
-module _ (p : List ℕ) (fp : Option (List ℕ)) (s : List ℕ) (h : gets p program_most fp ≡ Gets s) where
+module _ (p : List ℕ) (fp : Option (List ℕ)) (s : List ℕ) (h : gets p 1048576 fp ≡ Gets s) where
   pub checked : (u : Reading) → IsUnderstood (Check p) s u → Understands (Some (Check p)) (fp ∷ []) u
   checked u is = rw h is
 

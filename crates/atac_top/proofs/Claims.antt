@@ -5,18 +5,21 @@ use Rattle.atac_base.specs.Outside.{ShelfState, SinkState, Said, Agrees}
 use Rattle.c_syntax.specs.Shape as full
 use Rattle.c_tree.specs.Tables.{TablesShape}
 use Rattle.c_sites.specs.Refused.{refusal}
-use Rattle.atac_top.specs.Words.{Command, Check, Cover}
+use Rattle.c_lex.specs.declared.lexer.TextKind.TheVariants.{Plain, Probed}
+use Rattle.c_meaning.specs.Calls.{Source}
+use Rattle.atac_top.specs.Words.{Command, Check, Cover, Run}
 use Rattle.atac_top.specs.Ends.{End, IsDone, BadWords, NotAccepted, NotHeld, TooLong, ReadFailed, WriteFailed, OutOfMemory, status_of}
 use Rattle.first_tree.specs.Shape.{UnitShape}
-use Rattle.atac_top.specs.Programs.{IsFirst, IsAccepted, Rejection, by_front, by_sites, Refusal, rejected, not_yet, Counts, counts_of, counts_text, Reading, Refuses, Counted, Gives, IsUnderstood, section, report}
-use Rattle.atac_top.specs.Answers.{Answer, asked, names, text, gets, Gets, program_most, input_most}
-use Rattle.atac_top.specs.Runs.{AllAgree, IsOfGot, Understands, Breaks, Answers, Goes, Runs}
-use Rattle.atac_top.specs.Claims.{IsHeld, Passes, IsProgram, Supposes, Shows, NoFault}
+use Rattle.atac_top.specs.Programs.{IsFirst, IsAccepted, IsProbed, IsCovered, program_in, Rejection, by_front, by_sites, Refusal, rejected, not_yet, Unread, Counts, counts_of, counts_text, Reading, Refuses, Counted, Runs, Covers, IsUnderstood, section, report}
+use Rattle.atac_top.specs.Answers.{Answer, asked, names, text, gets, Gets, input_most}
+use Rattle.atac_top.specs.Runs.{AllAgree, IsOfGot, Understands, Breaks, Answers, Goes}
+use Rattle.atac_top.specs.Runs as whole
+use Rattle.atac_top.specs.Claims.{IsHeld, Passes, IsProgram, IsRunnable, Supposes, Shows, NoFault}
 use Rattle.atac_top.specs.declared.status.Status.{Status}
 use Rattle.atac_top.specs.declared.status.Status.TheVariants.{Done, NoMemory}
 use Rattle.c_front.specs.Front as front
 use Rattle.c_front.proofs.One.{is_one}
-use Rattle.atac_top.proofs.Asked.{cover_done, cover_text, check_done}
+use Rattle.atac_top.proofs.Asked.{cover_done, cover_text, run_done, run_text, check_done}
 
 module _ (c : Option Command) (shelf shelf' : ShelfState) (out out' : SinkState) (found : List (Option (List ℕ))) (put : List ℕ) (fine : NoFault shelf shelf' out out') where
   -- where the call breaks off at its program, memory was wanted, or a count rose
@@ -52,13 +55,13 @@ got file most said found h agrees =
     rw is (grind (arith, h.short))
 
 -- a text is one program at most
-same_program : (source : List ℕ) (a : IsAccepted source) (u : full.UnitShape) (t : TablesShape) → front.IsRead source (front.program u t) → front.program u t ≡ front.program a.unit a.tables
-same_program source a u t read = (is_one source).program_alone a.unit a.tables (front.program u t) a.read read
+same_program : (source : List ℕ) (a : IsAccepted source) (u : full.UnitShape) (t : TablesShape) → front.IsRead Plain source (front.program u t) → front.program u t ≡ front.program a.unit a.tables
+same_program source a u t read = (is_one Plain source).program_alone a.unit a.tables (front.program u t) a.read read
 
 -- a text that is accepted is not rejected
 not_rejected : (source said : List ℕ) → IsAccepted source → Rejection source said → ⊥
 not_rejected source said a (by_front number p read is) =
-    let e : front.refused number p ≡ front.program a.unit a.tables = (is_one source).program_alone a.unit a.tables (front.refused number p) a.read read in
+    let e : front.refused number p ≡ front.program a.unit a.tables = (is_one Plain source).program_alone a.unit a.tables (front.refused number p) a.read read in
     absurd (cc)
 not_rejected source said a (by_sites u t number p read is_refused is) =
     let e : front.program u t ≡ front.program a.unit a.tables = same_program source a u t read in
@@ -85,33 +88,70 @@ abbrev told : Counts → Answer
 told n = record { end = IsDone; sections = []; rest = counts_text n; kept = None }
 
 -- it is checked
-checked_done : (program : List ℕ) (p : Option (List ℕ)) (source : List ℕ) (u : Reading) → gets program program_most p ≡ Gets source → (a : IsAccepted source) → IsUnderstood (Check program) source u
+checked_done : (program : List ℕ) (p : Option (List ℕ)) (source : List ℕ) (u : Reading) → gets program 1048576 p ≡ Gets source → (a : IsAccepted source) → IsUnderstood (Check program) source u
     → asked (Some (Check program)) u (p ∷ []) ≡ record { end = IsDone; sections = []; rest = counts_text (counts_of a.tables a.unit); kept = None }
 checked_done program p source (Refuses said) g a is = absurd (not_rejected source said a is)
 checked_done program p source (Counted n) g a is = check_done program p source g n ∙ ap told (is.counts ∙ same_counts source a is.accepted)
-checked_done program p source (Gives P) g a is = absurd is
+checked_done program p source (Runs P) g a is = absurd is
+checked_done program p source (Covers P Q) g a is = absurd is
 
--- it is understood
-understood_done : (program input : List ℕ) (p i : Option (List ℕ)) (source bytes : List ℕ) (P : UnitShape) (u : Reading) → gets program program_most p ≡ Gets source → gets input input_most i ≡ Gets bytes
-    → IsAccepted source → IsFirst source P → IsUnderstood (Cover program input) source u → (asked (Some (Cover program input)) u (p ∷ i ∷ [])).end ≡ IsDone
-understood_done program input p i source bytes P (Refuses said) g h a first is = absurd (not_refused source said P a first is)
-understood_done program input p i source bytes P (Counted n) g h a first is = absurd is
-understood_done program input p i source bytes P (Gives Q) g h a first is = ap (λ (a : Answer). a.end) (cover_done program input p i source Q g bytes h)
+-- and it is the same program
+same_source : (source : List ℕ) (a b : IsAccepted source) → program_in b ≡ program_in a
+same_source source a b =
+    let e : front.program b.unit b.tables ≡ front.program a.unit a.tables = same_program source a b.unit b.tables b.read in
+    let same_unit : b.unit ≡ a.unit = cc in
+    let same_tables : b.tables ≡ a.tables = cc in
+    rw (same_unit, same_tables) refl
+
+-- a text that is read with probes is not refused so, and is one program
+not_unread : (source said : List ℕ) (P : Source) → IsProbed source P → Unread source said → ⊥
+not_unread source said P read r =
+    let e : front.refused r.number r.place ≡ front.program P.unit P.tables = (is_one Probed source).program_alone P.unit P.tables (front.refused r.number r.place) read r.read in
+    absurd (cc)
+
+one_probed : (source : List ℕ) (P Q : Source) → IsProbed source P → IsProbed source Q → Q ≡ P
+one_probed source P Q a b =
+    let e : front.program Q.unit Q.tables ≡ front.program P.unit P.tables = (is_one Probed source).program_alone P.unit P.tables (front.program Q.unit Q.tables) a b in
+    let same_unit : Q.unit ≡ P.unit = cc in
+    let same_tables : Q.tables ≡ P.tables = cc in
+    ap (λ u. record { unit = u; tables = Q.tables }) same_unit ∙ ap (λ t. record { unit = P.unit; tables = t }) same_tables
+
+-- it is covered
+covered_done : (n : ℕ) (program input : List ℕ) (p i : Option (List ℕ)) (source bytes : List ℕ) (Q : UnitShape) (u : Reading) → gets program 1048576 p ≡ Gets source → gets input input_most i ≡ Gets bytes
+    → IsAccepted source → IsFirst source Q → IsUnderstood (Cover n program input) source u → (asked (Some (Cover n program input)) u (p ∷ i ∷ [])).end ≡ IsDone
+covered_done n program input p i source bytes Q (Refuses said) g h a first is = absurd (not_refused source said Q a first is)
+covered_done n program input p i source bytes Q (Counted m) g h a first is = absurd is
+covered_done n program input p i source bytes Q (Runs R) g h a first is = absurd is
+covered_done n program input p i source bytes Q (Covers R S) g h a first is = ap (λ (a : Answer). a.end) (cover_done n program input p i source g R S bytes h)
+
+-- it is run
+ran_done : (n : ℕ) (program input : List ℕ) (p i : Option (List ℕ)) (source bytes : List ℕ) (P : Source) (u : Reading) → gets program 67108864 p ≡ Gets source → gets input input_most i ≡ Gets bytes
+    → IsProbed source P → IsUnderstood (Run n program input) source u → (asked (Some (Run n program input)) u (p ∷ i ∷ [])).end ≡ IsDone
+ran_done n program input p i source bytes P (Refuses said) g h read is = absurd (not_unread source said P read is)
+ran_done n program input p i source bytes P (Counted m) g h read is = absurd is
+ran_done n program input p i source bytes P (Covers R S) g h read is = absurd is
+ran_done n program input p i source bytes P (Runs R) g h read is = ap (λ (a : Answer). a.end) (run_done n program input p i source g R bytes h)
 
 supposed : (command : Command) (says : List ℕ → Said) (found : List (Option (List ℕ))) (u : Reading) → AllAgree says (names (Some command)) found → Supposes command says → Understands (Some command) found u → (asked (Some command) u found).end ≡ IsDone
 supposed (Check program) says (p ∷ []) u agrees h is =
-    let g = got program program_most _ p h.held agrees.0 in
+    let g = got program 1048576 _ p h.held agrees.0 in
     ap (λ (a : Answer). a.end) (checked_done program p _ u g h.accepted (subst (λ x. IsOfGot (Check program) x u) g is))
 supposed (Check program) says [] u agrees h is = absurd agrees
 supposed (Check program) says (p ∷ i ∷ rest) u agrees h is = absurd agrees.1
-supposed (Cover program input) says (p ∷ i ∷ []) u agrees h is =
-    let g = got program program_most _ p h.0.held agrees.0 in
-    understood_done program input p i _ _ h.0.program u g (got input input_most _ i h.1 agrees.1.0) h.0.accepted h.0.first (subst (λ x. IsOfGot (Cover program input) x u) g is)
-supposed (Cover program input) says [] u agrees h is = absurd agrees
-supposed (Cover program input) says (p ∷ []) u agrees h is = absurd agrees.1
-supposed (Cover program input) says (p ∷ i ∷ j ∷ rest) u agrees h is = absurd agrees.1.1
+supposed (Cover n program input) says (p ∷ i ∷ []) u agrees h is =
+    let g = got program 1048576 _ p h.0.held agrees.0 in
+    covered_done n program input p i _ _ h.0.program u g (got input input_most _ i h.1 agrees.1.0) h.0.accepted h.0.first (subst (λ x. IsOfGot (Cover n program input) x u) g is)
+supposed (Cover n program input) says [] u agrees h is = absurd agrees
+supposed (Cover n program input) says (p ∷ []) u agrees h is = absurd agrees.1
+supposed (Cover n program input) says (p ∷ i ∷ j ∷ rest) u agrees h is = absurd agrees.1.1
+supposed (Run n program input) says (p ∷ i ∷ []) u agrees h is =
+    let g = got program 67108864 _ p h.0.held agrees.0 in
+    ran_done n program input p i _ _ h.0.program u g (got input input_most _ i h.1 agrees.1.0) h.0.read (subst (λ x. IsOfGot (Run n program input) x u) g is)
+supposed (Run n program input) says [] u agrees h is = absurd agrees
+supposed (Run n program input) says (p ∷ []) u agrees h is = absurd agrees.1
+supposed (Run n program input) says (p ∷ i ∷ j ∷ rest) u agrees h is = absurd agrees.1.1
 
-pub complete_for : (command : Command) (shelf shelf' : ShelfState) (out out' err err' : SinkState) (status : Status) → Runs (Some command) shelf shelf' out out' err err' status
+pub complete_for : (command : Command) (shelf shelf' : ShelfState) (out out' err err' : SinkState) (status : Status) → whole.Runs (Some command) shelf shelf' out out' err err' status
     → Supposes command shelf.says → NoFault shelf shelf' out out' → (status ≡ Done) ⊎ (status ≡ NoMemory)
 complete_for command shelf shelf' out out' err err' status h supposes fine =
     rw h.status_is (goes_done (Some command) shelf shelf' out out' h.goes.found h.goes.put fine h.end h.goes.comes (λ a. supposed command shelf.says h.goes.found a.understood h.goes.agrees supposes a.is))
@@ -122,26 +162,45 @@ complete_for command shelf shelf' out out' err err' status h supposes fine =
 abbrev pub OneProgram : Type 0
 OneProgram = (source : List ℕ) (P Q : UnitShape) → IsFirst source P → IsFirst source Q → Q ≡ P
 
-answer_text : OneProgram → (program input : List ℕ) (p i : Option (List ℕ)) (source bytes : List ℕ) (P : UnitShape) (u : Reading) → gets program program_most p ≡ Gets source → gets input input_most i ≡ Gets bytes
-    → IsAccepted source → IsFirst source P → IsUnderstood (Cover program input) source u → text (asked (Some (Cover program input)) u (p ∷ i ∷ [])) ≡ section input P bytes ++ report P bytes
-answer_text one program input p i source bytes P (Refuses said) g h a first is = absurd (not_refused source said P a first is)
-answer_text one program input p i source bytes P (Counted n) g h a first is = absurd is
-answer_text one program input p i source bytes P (Gives Q) g h a first is =
-    cover_text program input p i source Q g bytes h ∙ ap (λ (R : UnitShape). section input R bytes ++ report R bytes) (one source P Q first is.1)
+covered_text : OneProgram → (n : ℕ) (program input : List ℕ) (p i : Option (List ℕ)) (source bytes : List ℕ) (Q : UnitShape) (u : Reading) → gets program 1048576 p ≡ Gets source → gets input input_most i ≡ Gets bytes
+    → (a : IsAccepted source) → IsFirst source Q → IsUnderstood (Cover n program input) source u → text (asked (Some (Cover n program input)) u (p ∷ i ∷ [])) ≡ section input (program_in a) bytes n ++ report Q bytes n
+covered_text one n program input p i source bytes Q (Refuses said) g h a first is = absurd (not_refused source said Q a first is)
+covered_text one n program input p i source bytes Q (Counted m) g h a first is = absurd is
+covered_text one n program input p i source bytes Q (Runs R) g h a first is = absurd is
+covered_text one n program input p i source bytes Q (Covers R S) g h a first is =
+    cover_text n program input p i source g R S bytes h
+    ∙ ap (λ (x : Source). section input x bytes n ++ report S bytes n) (is.program ∙ same_source source a is.accepted)
+    ∙ ap (λ (x : UnitShape). section input (program_in a) bytes n ++ report x bytes n) (one source Q S first is.first)
 
-shown_text : OneProgram → (program input : List ℕ) (says : List ℕ → Said) (found : List (Option (List ℕ))) (u : Reading) → AllAgree says (names (Some (Cover program input))) found → Understands (Some (Cover program input)) found u
-    → (p : IsProgram (says program)) (i : IsHeld (says input) input_most) → text (asked (Some (Cover program input)) u found) ≡ section input p.program i.bytes ++ report p.program i.bytes
-shown_text one program input says (f ∷ g ∷ []) u agrees is p i =
-    let got_source = got program program_most _ f p.held agrees.0 in
-    answer_text one program input f g _ _ p.program u got_source (got input input_most _ g i agrees.1.0) p.accepted p.first (subst (λ x. IsOfGot (Cover program input) x u) got_source is)
-shown_text one program input says [] u agrees is p i = absurd agrees
-shown_text one program input says (f ∷ []) u agrees is p i = absurd agrees.1
-shown_text one program input says (f ∷ g ∷ k ∷ rest) u agrees is p i = absurd agrees.1.1
+shown_text : OneProgram → (n : ℕ) (program input : List ℕ) (says : List ℕ → Said) (found : List (Option (List ℕ))) (u : Reading) → AllAgree says (names (Some (Cover n program input))) found → Understands (Some (Cover n program input)) found u
+    → (p : IsProgram (says program)) (i : IsHeld (says input) input_most) → text (asked (Some (Cover n program input)) u found) ≡ section input (program_in p.accepted) i.bytes n ++ report p.program i.bytes n
+shown_text one n program input says (f ∷ g ∷ []) u agrees is p i =
+    let got_source = got program 1048576 _ f p.held agrees.0 in
+    covered_text one n program input f g _ _ p.program u got_source (got input input_most _ g i agrees.1.0) p.accepted p.first (subst (λ x. IsOfGot (Cover n program input) x u) got_source is)
+shown_text one n program input says [] u agrees is p i = absurd agrees
+shown_text one n program input says (f ∷ []) u agrees is p i = absurd agrees.1
+shown_text one n program input says (f ∷ g ∷ k ∷ rest) u agrees is p i = absurd agrees.1.1
+
+ran_text : (n : ℕ) (program input : List ℕ) (p i : Option (List ℕ)) (source bytes : List ℕ) (P : Source) (u : Reading) → gets program 67108864 p ≡ Gets source → gets input input_most i ≡ Gets bytes
+    → IsProbed source P → IsUnderstood (Run n program input) source u → text (asked (Some (Run n program input)) u (p ∷ i ∷ [])) ≡ section input P bytes n
+ran_text n program input p i source bytes P (Refuses said) g h read is = absurd (not_unread source said P read is)
+ran_text n program input p i source bytes P (Counted m) g h read is = absurd is
+ran_text n program input p i source bytes P (Covers R S) g h read is = absurd is
+ran_text n program input p i source bytes P (Runs R) g h read is = run_text n program input p i source g R bytes h ∙ ap (λ (x : Source). section input x bytes n) (one_probed source P R read is)
+
+run_shown : (n : ℕ) (program input : List ℕ) (says : List ℕ → Said) (found : List (Option (List ℕ))) (u : Reading) → AllAgree says (names (Some (Run n program input))) found → Understands (Some (Run n program input)) found u
+    → (p : IsRunnable (says program)) (i : IsHeld (says input) input_most) → text (asked (Some (Run n program input)) u found) ≡ section input p.program i.bytes n
+run_shown n program input says (f ∷ g ∷ []) u agrees is p i =
+    let got_source = got program 67108864 _ f p.held agrees.0 in
+    ran_text n program input f g _ _ p.program u got_source (got input input_most _ g i agrees.1.0) p.read (subst (λ x. IsOfGot (Run n program input) x u) got_source is)
+run_shown n program input says [] u agrees is p i = absurd agrees
+run_shown n program input says (f ∷ []) u agrees is p i = absurd agrees.1
+run_shown n program input says (f ∷ g ∷ k ∷ rest) u agrees is p i = absurd agrees.1.1
 
 counted_text : (program : List ℕ) (says : List ℕ → Said) (found : List (Option (List ℕ))) (u : Reading) → AllAgree says (names (Some (Check program))) found → Understands (Some (Check program)) found u
     → (p : Passes (says program)) → text (asked (Some (Check program)) u found) ≡ counts_text (counts_of p.accepted.tables p.accepted.unit)
 counted_text program says (f ∷ []) u agrees is p =
-    let got_source = got program program_most _ f p.held agrees.0 in
+    let got_source = got program 1048576 _ f p.held agrees.0 in
     ap (λ (a : Answer). text a) (checked_done program f _ u got_source p.accepted (subst (λ x. IsOfGot (Check program) x u) got_source is))
 counted_text program says [] u agrees is p = absurd agrees
 counted_text program says (f ∷ g ∷ rest) u agrees is p = absurd agrees.1
@@ -164,6 +223,9 @@ pub shows : OneProgram → (command : Command) (shelf shelf' : ShelfState) (out 
 shows one (Check program) shelf shelf' out out' end h is = λ p.
     let d = done_put (Some (Check program)) shelf shelf' out out' end h is in
     h.bytes ∙ ap (append_known out.bytes) (d.2 ∙ counted_text program shelf.says h.found d.0 h.agrees d.1 p)
-shows one (Cover program input) shelf shelf' out out' end h is = λ p i.
-    let d = done_put (Some (Cover program input)) shelf shelf' out out' end h is in
-    h.bytes ∙ ap (append_known out.bytes) (d.2 ∙ shown_text one program input shelf.says h.found d.0 h.agrees d.1 p i)
+shows one (Cover n program input) shelf shelf' out out' end h is = λ p i.
+    let d = done_put (Some (Cover n program input)) shelf shelf' out out' end h is in
+    h.bytes ∙ ap (append_known out.bytes) (d.2 ∙ shown_text one n program input shelf.says h.found d.0 h.agrees d.1 p i)
+shows one (Run n program input) shelf shelf' out out' end h is = λ p i.
+    let d = done_put (Some (Run n program input)) shelf shelf' out out' end h is in
+    h.bytes ∙ ap (append_known out.bytes) (d.2 ∙ run_shown n program input shelf.says h.found d.0 h.agrees d.1 p i)

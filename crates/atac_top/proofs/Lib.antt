@@ -3,6 +3,7 @@ pub mod Claims
 pub mod Exits
 pub mod Found
 pub mod Growing
+pub mod Limits
 pub mod Lines
 pub mod Plain
 pub mod Reading

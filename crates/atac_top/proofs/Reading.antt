@@ -2,10 +2,15 @@
 use Rattle.std.proofs.Common.{◌≡◌, sym, ◌∙◌, subst, List, [], ℕ, Option, None, Some}
 use Rattle.std.specs.Prelude.{string_bytes, MatchOption}
 use Rattle.atac_base.specs.declared.place.Pos.{Pos}
+use Rattle.c_lex.specs.declared.lexer.TextKind.{TextKind}
+use Rattle.c_routines.specs.Routines.{source_of}
 use Rattle.c_front.specs.declared.front.FrontRefusal.{FrontRefusal}
 use Rattle.c_front.specs.declared.front.FrontRefusal.TheVariants.{At}
 use Rattle.c_front.specs.Front as front
+use Rattle.atac_top.specs.declared.program.First.{First}
 use Rattle.atac_top.specs.declared.program.Understood.{Understood}
+use Rattle.atac_top.specs.declared.program.Runnable.{Runnable}
+use Rattle.atac_top.specs.declared.program.Runnable.TheVariants as runnables
 use Rattle.atac_top.specs.declared.program.Reading.{Reading}
 use Rattle.atac_top.specs.declared.program.Reading.TheVariants as reading
 use Rattle.first_tree.specs.declared.token.Token.{Token}
@@ -13,8 +18,8 @@ use Rattle.first_tree.specs.Shape.{UnitShape}
 use Rattle.first_tokens.specs.Tokens.{tokens_of}
 use Rattle.first_form.specs.Grammar.{IsProgram}
 use Rattle.first_form.proofs.Whole.{program_found, found_only}
-use Rattle.atac_top.specs.Programs.{Rejection, Refusal, IsAccepted, IsFirst}
-use Rattle.atac_top.specs.Understanding.{HasSites, CheckedAs, Reads, ReadAs}
+use Rattle.atac_top.specs.Programs.{Rejection, Refusal, Unread, IsAccepted, IsProbed, IsFirst}
+use Rattle.atac_top.specs.Understanding.{HasSites, CheckedAs, Reads, CoveredAs, ReadAs, RunAs}
 use Rattle.atac_top.specs.declared.checking.Checking.{Checking}
 use Rattle.atac_top.specs.declared.checking.Checking.TheVariants as checking
 use Rattle.c_sites.specs.declared.numbered.Sites.{Sites}
@@ -26,31 +31,37 @@ use Rattle.c_tree.specs.declared.program.Program.{Program}
 pub read_refused : (r : Reading) (said : _) (s t : List ℕ) → r ≡ reading.Refuses said → s ≡ t → ReadAs s r → Refusal t (string_bytes said)
 read_refused r said s t e same h = subst (λ (x : List ℕ). ReadAs x (reading.Refuses said)) same (subst (ReadAs s) e h)
 
-pub read_given : (r : Reading) (u : Understood) (s t : List ℕ) → r ≡ reading.Gives u → s ≡ t → ReadAs s r → IsAccepted t × Reads t u
-read_given r u s t e same h = subst (λ (x : List ℕ). ReadAs x (reading.Gives u)) same (subst (ReadAs s) e h)
+pub read_given : (r : Reading) (u : Understood) (s t : List ℕ) → r ≡ reading.Covers u → s ≡ t → ReadAs s r → CoveredAs t u
+read_given r u s t e same h = subst (λ (x : List ℕ). ReadAs x (reading.Covers u)) same (subst (ReadAs s) e h)
+
+pub unread : (r : Runnable) (said : _) (s t : List ℕ) → r ≡ runnables.Refuses said → s ≡ t → RunAs s r → Unread t (string_bytes said)
+unread r said s t e same h = subst (λ (x : List ℕ). RunAs x (runnables.Refuses said)) same (subst (RunAs s) e h)
+
+pub runnable : (r : Runnable) (p : Program) (s t : List ℕ) → r ≡ runnables.Runs p → s ≡ t → RunAs s r → IsProbed t (source_of p)
+runnable r p s t e same h = subst (λ (x : List ℕ). RunAs x (runnables.Runs p)) same (subst (RunAs s) e h)
 
 pub check_refused : (r : Checking) (said : _) (s t : List ℕ) → r ≡ checking.Refuses said → s ≡ t → CheckedAs s r → Rejection t (string_bytes said)
 check_refused r said s t e same h = subst (λ (x : List ℕ). CheckedAs x (checking.Refuses said)) same (subst (CheckedAs s) e h)
 
-pub check_accepts : (r : Checking) (found : Sites) (s t : List ℕ) → r ≡ checking.Accepts found → s ≡ t → CheckedAs s r → HasSites t found
-check_accepts r found s t e same h = subst (λ (x : List ℕ). CheckedAs x (checking.Accepts found)) same (subst (CheckedAs s) e h)
+pub check_accepts : (r : Checking) (p : Program) (found : Sites) (s t : List ℕ) → r ≡ checking.Accepts p found → s ≡ t → CheckedAs s r → HasSites t p found
+check_accepts r p found s t e same h = subst (λ (x : List ℕ). CheckedAs x (checking.Accepts p found)) same (subst (CheckedAs s) e h)
 
 -- its sites are refused, by this number and at this place
 pub sites_refused : (P : Program) (e : SiteRefusal) (n : ℕ) (p : Pos) → e ≡ site.At n p → sites.IsRefused P e → sites.refusal_of P ≡ Some (n, p)
 sites_refused P e n p is h = subst (sites.IsRefused P) is h
 
 -- the front end refuses the text, by this number and at this place
-pub refused_at : (source : List ℕ) (e : FrontRefusal) (n : ℕ) (p : Pos) → e ≡ At n p → front.IsRefused source e → front.IsRead source (front.refused n p)
-refused_at source e n p is h = subst (front.IsRefused source) is h
+pub refused_at : (kind : TextKind) (source : List ℕ) (e : FrontRefusal) (n : ℕ) (p : Pos) → e ≡ At n p → front.IsRefused kind source e → front.IsRead kind source (front.refused n p)
+refused_at kind source e n p is h = subst (front.IsRefused kind source) is h
 
 -- the text is no program of the first form, or this one
-abbrev pub FirstRead : List ℕ → Option Understood → Type 0
+abbrev pub FirstRead : List ℕ → Option First → Type 0
 FirstRead source o = MatchOption o ((P : UnitShape) → IsFirst source P → ⊥) (Reads source)
 
-pub none_first : (source : List ℕ) (o : Option Understood) → o ≡ None → FirstRead source o → (P : UnitShape) → IsFirst source P → ⊥
+pub none_first : (source : List ℕ) (o : Option First) → o ≡ None → FirstRead source o → (P : UnitShape) → IsFirst source P → ⊥
 none_first source o e h = subst (FirstRead source) e h
 
-pub some_first : (source : List ℕ) (o : Option Understood) (u : Understood) → o ≡ Some u → FirstRead source o → Reads source u
+pub some_first : (source : List ℕ) (o : Option First) (u : First) → o ≡ Some u → FirstRead source o → Reads source u
 some_first source o u e h = subst (FirstRead source) e h
 
 -- ONE PROGRAM A TEXT

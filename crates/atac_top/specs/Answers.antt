@@ -1,9 +1,10 @@
 -- What a command answers, by the files that it finds.
 use Rattle.std.specs.Prelude.{ℕ, cond, leb, List, [], ◌∷◌, ◌++◌, length, Option, None, Some}
-use Rattle.atac_top.specs.Words.{Command, Check, Cover, fetched}
+use Rattle.c_meaning.specs.Calls.{Source}
+use Rattle.atac_top.specs.Words.{Command, Check, Cover, Run, fetched}
 use Rattle.atac_top.specs.Ends.{End, IsDone, BadWords, NotAccepted, NotHeld, TooLong}
 use Rattle.first_tree.specs.Shape.{UnitShape}
-use Rattle.atac_top.specs.Programs.{Counts, Reading, Refuses, Counted, Gives, counts_text, section, report}
+use Rattle.atac_top.specs.Programs.{Counts, Reading, Refuses, Counted, Runs, Covers, counts_text, section, report}
 
 -- An answer: how the call ends, what it puts (whole sections, and then a rest), and what it keeps under which name.
 pub record Answer : Type 0 where
@@ -36,20 +37,21 @@ abbrev pub given : List (List ℕ) → Got → (List ℕ → Answer) → Answer
 given sections (Gets bytes) go = go bytes
 given sections (Stops end) go = refused sections end
 
--- A program that is not accepted is refused.
+-- A program that is refused ends the call, whatever it is wanted for: its counts, a run, or what a run covers.
 abbrev pub counted : List ℕ → Reading → (Counts → Answer) → Answer
 counted file (Refuses said) go = refused [] (NotAccepted file said)
 counted file (Counted n) go = go n
-counted file (Gives P) go = refused [] BadWords
+counted file understood go = refused [] BadWords
 
--- So is one that can't be run.
-abbrev pub accepted : List ℕ → Reading → (UnitShape → Answer) → Answer
-accepted file (Refuses said) go = refused [] (NotAccepted file said)
-accepted file (Counted n) go = refused [] BadWords
-accepted file (Gives P) go = go P
+abbrev pub run_by : List ℕ → Reading → (Source → Answer) → Answer
+run_by file (Refuses said) go = refused [] (NotAccepted file said)
+run_by file (Runs P) go = go P
+run_by file understood go = refused [] BadWords
 
-abbrev pub program_most : ℕ
-program_most = 1048576
+abbrev pub covered_by : List ℕ → Reading → (Source → UnitShape → Answer) → Answer
+covered_by file (Refuses said) go = refused [] (NotAccepted file said)
+covered_by file (Covers P Q) go = go P Q
+covered_by file understood go = refused [] BadWords
 
 abbrev pub input_most : ℕ
 input_most = 16777216
@@ -57,14 +59,19 @@ input_most = 16777216
 -- The answer to a command, by what is understood of the program's text and by the bytes under each name that it fetches, in their order.
 abbrev pub answer : Command → Reading → List (Option (List ℕ)) → Answer
 answer (Check program) understood (p ∷ []) =
-    given [] (gets program program_most p) (λ source.
+    given [] (gets program 1048576 p) (λ source.
     counted program understood (λ n.
     record { end = IsDone; sections = []; rest = counts_text n; kept = None }))
-answer (Cover program input) understood (p ∷ i ∷ []) =
-    given [] (gets program program_most p) (λ source.
-    accepted program understood (λ P.
+answer (Cover limit program input) understood (p ∷ i ∷ []) =
+    given [] (gets program 1048576 p) (λ source.
+    covered_by program understood (λ P Q.
     given [] (gets input input_most i) (λ bytes.
-    record { end = IsDone; sections = section input P bytes ∷ []; rest = report P bytes; kept = None })))
+    record { end = IsDone; sections = section input P bytes limit ∷ []; rest = report Q bytes limit; kept = None })))
+answer (Run limit program input) understood (p ∷ i ∷ []) =
+    given [] (gets program 67108864 p) (λ source.
+    run_by program understood (λ P.
+    given [] (gets input input_most i) (λ bytes.
+    record { end = IsDone; sections = section input P bytes limit ∷ []; rest = []; kept = None })))
 answer command understood found = refused [] BadWords
 
 -- The same from the words.

@@ -4,6 +4,7 @@ use Rattle.std.specs.Fmt.{decimal}
 use Rattle.atac_base.specs.declared.place.Pos.{Pos}
 use Rattle.c_syntax.specs.Shape as full
 use Rattle.c_tree.specs.Tables.{TablesShape}
+use Rattle.c_lex.specs.declared.lexer.TextKind.TheVariants.{Plain, Probed}
 use Rattle.c_front.specs.Front as front
 use Rattle.c_front.specs.Names.{name}
 use Rattle.c_items.specs.Items.{Item}
@@ -11,7 +12,9 @@ use Rattle.c_items.specs.Units.{items_of}
 use Rattle.c_sites.specs.Lists.{Lists, lists_of}
 use Rattle.c_sites.specs.Numbers.{names_of}
 use Rattle.c_sites.specs.Refused.{refusal}
-use Rattle.atac_top.specs.Words.{Command, Check, Cover}
+use Rattle.c_meaning.specs.Calls.{Source}
+use Rattle.c_meaning.specs.Runs.{run}
+use Rattle.atac_top.specs.Words.{Command, Check, Cover, Run}
 use Rattle.first_tree.specs.declared.token.Token.{Token}
 use Rattle.first_tree.specs.Shape.{UnitShape}
 use Rattle.first_tree.specs.Blocks.{blocks}
@@ -36,18 +39,33 @@ refusal_text number p = 58 ∷ decimal p.line ++ (58 ∷ decimal p.col ++ (codes
 pub record IsAccepted (source : List ℕ) : Type 0 where
   pub unit : full.UnitShape
   pub tables : TablesShape
-  pub read : front.IsRead source (front.program unit tables)
+  pub read : front.IsRead Plain source (front.program unit tables)
   pub clean : refusal tables unit ≡ None
+
+-- That program.
+abbrev pub program_in : {source : List ℕ} → IsAccepted source → Source
+program_in a = record { unit = a.unit; tables = a.tables }
 
 -- Why a text is not accepted: the front end refuses it, or it is a program whose sites are refused.
 pub data Rejection (source said : List ℕ) : Type 0 where
-  by_front : (number : ℕ) (p : Pos) → front.IsRead source (front.refused number p) → said ≡ refusal_text number p → Rejection source said
-  by_sites : (u : full.UnitShape) (t : TablesShape) (number : ℕ) (p : Pos) → front.IsRead source (front.program u t) → refusal t u ≡ Some (number, p) → said ≡ refusal_text number p → Rejection source said
+  by_front : (number : ℕ) (p : Pos) → front.IsRead Plain source (front.refused number p) → said ≡ refusal_text number p → Rejection source said
+  by_sites : (u : full.UnitShape) (t : TablesShape) (number : ℕ) (p : Pos) → front.IsRead Plain source (front.program u t) → refusal t u ≡ Some (number, p) → said ≡ refusal_text number p → Rejection source said
 
--- Why a text is refused that is to be run: it is not accepted, or it is no program of the first form.
+-- Why a text is refused that is to be covered: it is not accepted, or it is no program of the first form.
 pub data Refusal (source said : List ℕ) : Type 0 where
   rejected : Rejection source said → Refusal source said
   not_yet : IsAccepted source → ((P : UnitShape) → IsFirst source P → ⊥) → said ≡ refusal_text 29 (record { line = 1; col = 1 }) → Refusal source said
+
+-- Why a text is refused that is to be run: the front end refuses it, read as a text with probes.
+pub record Unread (source said : List ℕ) : Type 0 where
+  pub number : ℕ
+  pub place : Pos
+  pub read : front.IsRead Probed source (front.refused number place)
+  pub said_is : said ≡ refusal_text number place
+
+-- The text, read so, is this program.
+abbrev pub IsProbed : List ℕ → Source → Type 0
+IsProbed source P = front.IsRead Probed source (front.program P.unit P.tables)
 
 -- How many blocks, decisions, definitions and uses a program has.
 pub record Counts : Type 0 where
@@ -71,38 +89,43 @@ abbrev pub counts_text : Counts → List ℕ
 counts_text n =
     codes "accepted: " ++ (decimal n.blocks ++ (codes " blocks, " ++ (decimal n.decisions ++ (codes " decisions, " ++ (decimal n.definitions ++ (codes " definitions, " ++ (decimal n.uses ++ codes " uses\n")))))))
 
--- What a text is read as: refused, with what is said of it; accepted, with its counts; or a program to be run.
+-- What a text is read as: refused, with what is said of it; accepted, with its counts; a program to be run; or one to be
+-- covered, which is of the first form too.
 pub data Reading : Type 0 where
   Refuses : (said : List ℕ) → Reading
   Counted : (n : Counts) → Reading
-  Gives : (P : UnitShape) → Reading
+  Runs : (P : Source) → Reading
+  Covers : (P : Source) (Q : UnitShape) → Reading
 
 -- The text is accepted, and has these counts.
 pub record IsCounted (source : List ℕ) (n : Counts) : Type 0 where
   pub accepted : IsAccepted source
   pub counts : n ≡ counts_of accepted.tables accepted.unit
 
+-- The text is accepted as P, and is Q.
+pub record IsCovered (source : List ℕ) (P : Source) (Q : UnitShape) : Type 0 where
+  pub accepted : IsAccepted source
+  pub program : P ≡ program_in accepted
+  pub first : IsFirst source Q
+
 -- What a command understands of its program's text.
 abbrev pub IsUnderstood : Command → List ℕ → Reading → Type 0
 IsUnderstood (Check program) source (Refuses said) = Rejection source said
 IsUnderstood (Check program) source (Counted n) = IsCounted source n
-IsUnderstood (Check program) source (Gives P) = ⊥
-IsUnderstood (Cover program input) source (Refuses said) = Refusal source said
-IsUnderstood (Cover program input) source (Counted n) = ⊥
-IsUnderstood (Cover program input) source (Gives P) = IsAccepted source × IsFirst source P
+IsUnderstood (Cover limit program input) source (Refuses said) = Refusal source said
+IsUnderstood (Cover limit program input) source (Covers P Q) = IsCovered source P Q
+IsUnderstood (Run limit program input) source (Refuses said) = Unread source said
+IsUnderstood (Run limit program input) source (Runs P) = IsProbed source P
+IsUnderstood command source understood = ⊥
 
--- The most turns of a run.
-abbrev pub turn_limit : ℕ
-turn_limit = 1000000
+-- The section of a program's own run, by the input's name and bytes and the most turns.
+abbrev pub section : List ℕ → Source → List ℕ → ℕ → List ℕ
+section input P bytes limit = section_text input (run P bytes limit)
 
--- The program's own run, with the events of its blocks.
-abbrev pub run_on : UnitShape → List ℕ → Outcome
-run_on P bytes = run_of (Some 0) P bytes turn_limit
+-- The run of a program of the first form, with the events of its blocks.
+abbrev pub run_on : UnitShape → List ℕ → ℕ → Outcome
+run_on Q bytes limit = run_of (Some 0) Q bytes limit
 
--- The section of one run, by the input's name, the program and the input's bytes.
-abbrev pub section : List ℕ → UnitShape → List ℕ → List ℕ
-section input P bytes = section_text input (run_on P bytes)
-
--- The report, by the program and the input's bytes: a block is covered where its event is among those of the run.
-abbrev pub report : UnitShape → List ℕ → List ℕ
-report P bytes = report_text (record { blocks = blocks P }) (covers (run_on P bytes).events)
+-- The report: a block is covered where its event is among those of the run.
+abbrev pub report : UnitShape → List ℕ → ℕ → List ℕ
+report Q bytes limit = report_text (record { blocks = blocks Q }) (covers (run_on Q bytes limit).events)

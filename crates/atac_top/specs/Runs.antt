@@ -2,10 +2,10 @@
 use Rattle.std.specs.Prelude.{◌≡◌, ◌≢◌, ◌⊎◌, ℕ, ◌-◌, List, [], ◌∷◌, take, slice_get, Option, None, Some, IsTrue, IsSome}
 use Rattle.std.specs.Io.KnownBytes.{append_known}
 use Rattle.atac_base.specs.Outside.{ShelfState, SinkState, Said, Agrees, Rose, IsFront}
-use Rattle.atac_top.specs.Words.{Command, program_of}
+use Rattle.atac_top.specs.Words.{Command, program_of, program_most}
 use Rattle.atac_top.specs.Ends.{End, IsDone, ReadFailed, WriteFailed, OutOfMemory, status_of, line_of}
 use Rattle.atac_top.specs.Programs.{Reading, IsUnderstood}
-use Rattle.atac_top.specs.Answers.{Answer, asked, names, joined, text, Got, Gets, Stops, gets, program_most}
+use Rattle.atac_top.specs.Answers.{Answer, asked, names, joined, text, Got, Gets, Stops, gets}
 use Rattle.atac_top.specs.Grows.{ShelfGrows, SinkGrows}
 use Rattle.atac_top.specs.declared.status.Status.{Status}
 
@@ -55,7 +55,7 @@ IsOfGot command (Gets source) understood = IsUnderstood command source understoo
 IsOfGot command (Stops end) understood = Unit {0}
 
 abbrev pub Understands : Option Command → List (Option (List ℕ)) → Reading → Type 0
-Understands (Some command) (p ∷ found) understood = IsOfGot command (gets (program_of command) program_most p) understood
+Understands (Some command) (p ∷ found) understood = IsOfGot command (gets (program_of command) (program_most command) p) understood
 Understands asked_for found understood = Unit {0}
 
 -- The answer, by what is understood, and what came of it.

@@ -1,22 +1,32 @@
 -- The text of one run: the input's name, the output, and how the run ended.
 use Rattle.std.specs.Prelude.{ℕ, List, [], ◌∷◌, ◌++◌, length, codes}
 use Rattle.std.specs.Fmt.{decimal, signed_decimal}
-use Rattle.c_machine.specs.declared.end.Fault.{Fault}
-use Rattle.c_machine.specs.declared.end.Fault.TheVariants.{Overflow, Uninitialised, NoResult}
-use Rattle.c_machine.specs.declared.end.End.{End}
-use Rattle.c_machine.specs.declared.end.End.TheVariants as end
-use Rattle.c_machine.specs.Run.{Outcome}
+use Rattle.c_store.specs.declared.value.Fault.{Fault}
+use Rattle.c_store.specs.declared.value.Fault.TheVariants as fault
+use Rattle.c_meaning.specs.declared.end.End.{End}
+use Rattle.c_meaning.specs.declared.end.End.TheVariants as end
+use Rattle.c_meaning.specs.Runs.{Outcome}
 
 -- a fault's number and name
 abbrev pub fault_text : Fault → List ℕ
-fault_text Overflow = codes "2 Overflow"
-fault_text Uninitialised = codes "7 Uninitialised"
-fault_text NoResult = codes "10 NoResult"
+fault_text fault.DivideByZero = codes "1 DivideByZero"
+fault_text fault.Overflow = codes "2 Overflow"
+fault_text fault.ShiftCount = codes "3 ShiftCount"
+fault_text fault.Null = codes "4 Null"
+fault_text fault.Dangling = codes "5 Dangling"
+fault_text fault.OutOfBounds = codes "6 OutOfBounds"
+fault_text fault.Uninitialised = codes "7 Uninitialised"
+fault_text fault.OtherArray = codes "8 OtherArray"
+fault_text fault.WriteLiteral = codes "9 WriteLiteral"
+fault_text fault.NoResult = codes "10 NoResult"
 
 abbrev pub end_text : End → List ℕ
 end_text (end.Returned v) = codes "returned " ++ signed_decimal v
+end_text (end.Exited v) = codes "exited " ++ signed_decimal v
 end_text (end.Fault fault function) = codes "fault " ++ (fault_text fault ++ (codes " in " ++ function))
 end_text end.Turns = codes "turn limit"
+end_text end.Depth = codes "depth limit"
+end_text end.Room = codes "room limit"
 
 -- == END turns T bytes B
 abbrev pub end_line_of : List ℕ → ℕ → End → List ℕ

@@ -8,23 +8,25 @@ ghost use Rattle.c_sites.specs.ListsView.{lists_shape};
 use atac_base::place::{NoMemory, Pos};
 use c_front::front::{FrontRefusal, read};
 use c_front::names::name_of;
+use c_lex::TextKind;
 use c_sites::numbered::Sites;
 use c_sites::sites::{SiteRefusal, sites};
+use c_tree::program::Program;
 use std::alloc::Global;
 
-/// What comes of checking a text: why it is not accepted, or its sites.
+/// What comes of checking a text: why it is not accepted, or its program and sites.
 #[derive(Drop)]
 pub enum Checking {
     Refuses(String),
-    Accepts(Sites),
+    Accepts(Program, Sites),
 }
 
-/// Checks the text of a program: the front end's refusal, else that of its sites, else the sites.
+/// Checks the text of a program: the front end's refusal, else that of its sites, else both.
 pub fn check(alloc: Global, text: &[u8]) -> Result<Checking, NoMemory>
     requires { length text.now ≤ 1048576 }
     ensures { IfOk result (CheckedAs text.now) }
 {
-    let program = match read(alloc, text) {
+    let program = match read(alloc, text, TextKind::Plain) {
         Ok(program) => program,
         Err(FrontRefusal::NoMemory) => return Err(NoMemory),
         Err(FrontRefusal::At(number, pos)) => {
@@ -32,7 +34,7 @@ pub fn check(alloc: Global, text: &[u8]) -> Result<Checking, NoMemory>
         }
     };
     match sites(alloc, &program) {
-        Ok(sites) => Ok(Checking::Accepts(sites)),
+        Ok(sites) => Ok(Checking::Accepts(program, sites)),
         Err(SiteRefusal::NoMemory) => Err(NoMemory),
         Err(SiteRefusal::At(number, pos)) => Ok(Checking::Refuses(said(alloc, number, pos)?)),
     }

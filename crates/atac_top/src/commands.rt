@@ -1,11 +1,11 @@
-ghost use Rattle.std.specs.Prelude.{◌≡◌, Some};
-ghost use Rattle.atac_top.specs.Words.{Check, Cover};
-ghost use Rattle.atac_top.specs.Stops.{command_of, ended};
+ghost use Rattle.std.specs.Prelude.{◌≤◌, Some};
+ghost use Rattle.atac_top.specs.Words.{Check, Cover, Run};
+ghost use Rattle.atac_top.specs.Stops.{command_of, ended, IsFew};
 ghost use Rattle.atac_top.specs.Runs.{Goes};
 
 use crate::checking::{self, Checking, counts_of};
 use crate::outside::{fetch, put};
-use crate::program::{Reading, run_on, understand};
+use crate::program::{Reading, Runnable, read_to_run, report_of, section_of, understand};
 use crate::stop::Stop;
 use crate::words::Asked;
 use atac_base::outside::{Shelf, Sink};
@@ -13,6 +13,9 @@ use std::alloc::Global;
 
 /// The most bytes of a program.
 const PROGRAM_MOST: u64 = 1_048_576;
+
+/// The most bytes of a program that may have probes.
+const PROBED_MOST: u64 = 67_108_864;
 
 /// The most bytes of an input.
 const INPUT_MOST: u64 = 16_777_216;
@@ -30,7 +33,7 @@ fn check<'a, S: Shelf, W: Sink>(
     let source = fetch(alloc, shelf, program, PROGRAM_MOST)?;
     let sites = match checking::check(alloc, source.as_slice())? {
         Checking::Refuses(said) => return Err(Stop::NotAccepted(program, said)),
-        Checking::Accepts(sites) => sites,
+        Checking::Accepts(_, sites) => sites,
     };
     let line = counts_of(alloc, &sites)?;
     put(out, line.as_bytes())
@@ -39,23 +42,49 @@ fn check<'a, S: Shelf, W: Sink>(
 // Runs the program on the input and puts the section and the report.
 fn cover<'a, S: Shelf, W: Sink>(
     alloc: Global,
+    limit: u64,
     program: &'a str,
     input: &'a str,
     shelf: &mut S,
     out: &mut W,
 ) -> Result<(), Stop<'a>>
-    ensures { Goes (Some (Cover program.now input.now)) (S.state shelf.old) (S.state shelf.new)
+    requires { limit ≤ 2000000 }
+    ensures { Goes (Some (Cover limit program.now input.now)) (S.state shelf.old) (S.state shelf.new)
         (W.state out.old) (W.state out.new) (ended result) }
 {
     let source = fetch(alloc, shelf, program, PROGRAM_MOST)?;
     let understood = match understand(alloc, source.as_slice())? {
         Reading::Refuses(said) => return Err(Stop::NotAccepted(program, said)),
-        Reading::Gives(understood) => understood,
+        Reading::Covers(understood) => understood,
     };
     let bytes = fetch(alloc, shelf, input, INPUT_MOST)?;
-    let ran = run_on(alloc, &understood, input, bytes.as_slice())?;
-    put(out, ran.section.as_slice())?;
-    put(out, ran.report.as_slice())
+    let section = section_of(alloc, &understood.program, limit, input, bytes.as_slice())?;
+    let report = report_of(alloc, &understood.first, limit, bytes.as_slice())?;
+    put(out, section.as_slice())?;
+    put(out, report.as_slice())
+}
+
+// Runs the program, plain or with probes, on the input and puts the section.
+fn run<'a, S: Shelf, W: Sink>(
+    alloc: Global,
+    limit: u64,
+    program: &'a str,
+    input: &'a str,
+    shelf: &mut S,
+    out: &mut W,
+) -> Result<(), Stop<'a>>
+    requires { limit ≤ 2000000 }
+    ensures { Goes (Some (Run limit program.now input.now)) (S.state shelf.old) (S.state shelf.new)
+        (W.state out.old) (W.state out.new) (ended result) }
+{
+    let source = fetch(alloc, shelf, program, PROBED_MOST)?;
+    let runnable = match read_to_run(alloc, source.as_slice())? {
+        Runnable::Refuses(said) => return Err(Stop::NotAccepted(program, said)),
+        Runnable::Runs(runnable) => runnable,
+    };
+    let bytes = fetch(alloc, shelf, input, INPUT_MOST)?;
+    let section = section_of(alloc, &runnable, limit, input, bytes.as_slice())?;
+    put(out, section.as_slice())
 }
 
 /// Does what the words ask for.
@@ -65,11 +94,13 @@ pub fn carry_out<'a, S: Shelf, W: Sink>(
     shelf: &mut S,
     out: &mut W,
 ) -> Result<(), Stop<'a>>
+    requires { IsFew asked }
     ensures { Goes (Some (command_of asked.entry)) (S.state shelf.old) (S.state shelf.new)
         (W.state out.old) (W.state out.new) (ended result) }
 {
     match asked {
         Asked::Check(program) => check(alloc, program, shelf, out),
-        Asked::Cover(program, input) => cover(alloc, program, input, shelf, out),
+        Asked::Cover(limit, program, input) => cover(alloc, limit, program, input, shelf, out),
+        Asked::Run(limit, program, input) => run(alloc, limit, program, input, shelf, out),
     }
 }

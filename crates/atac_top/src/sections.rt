@@ -3,15 +3,23 @@ ghost use Rattle.std.specs.Fmt.{decimal};
 ghost use Rattle.atac_top.specs.Sections.{fault_text, end_text, end_line_of, section_of};
 
 use atac_base::place::NoMemory;
-use c_machine::end::{End, Fault, RunEnd};
+use c_meaning::end::{End, RunEnd};
+use c_store::value::Fault;
 use std::alloc::{AllocError, Global};
 
 fn fault_name(fault: Fault) -> &'static str
     ensures { result.now ≡ fault_text fault }
 {
     match fault {
+        Fault::DivideByZero => "1 DivideByZero",
         Fault::Overflow => "2 Overflow",
+        Fault::ShiftCount => "3 ShiftCount",
+        Fault::Null => "4 Null",
+        Fault::Dangling => "5 Dangling",
+        Fault::OutOfBounds => "6 OutOfBounds",
         Fault::Uninitialised => "7 Uninitialised",
+        Fault::OtherArray => "8 OtherArray",
+        Fault::WriteLiteral => "9 WriteLiteral",
         Fault::NoResult => "10 NoResult",
     }
 }
@@ -31,6 +39,10 @@ fn put_end(text: &mut Vec<u8>, alloc: Global, end: &End) -> Result<(), AllocErro
             text.extend_from_slice(b"returned ")?;
             text.extend_from_slice(status.to_string(alloc)?.as_bytes())
         }
+        End::Exited(status) => {
+            text.extend_from_slice(b"exited ")?;
+            text.extend_from_slice(status.to_string(alloc)?.as_bytes())
+        }
         End::Fault(fault, function) => {
             text.extend_from_slice(b"fault ")?;
             text.extend_from_slice(fault_name(*fault).as_bytes())?;
@@ -38,6 +50,8 @@ fn put_end(text: &mut Vec<u8>, alloc: Global, end: &End) -> Result<(), AllocErro
             text.extend_from_slice(function.bytes())
         }
         End::Turns => text.extend_from_slice(b"turn limit"),
+        End::Depth => text.extend_from_slice(b"depth limit"),
+        End::Room => text.extend_from_slice(b"room limit"),
     }
 }
 

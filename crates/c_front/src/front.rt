@@ -22,13 +22,14 @@ pub enum FrontRefusal {
 }
 
 // The tokens of a text.
-fn tokens_of(alloc: Global, text: &[u8]) -> Result<Vec<Token>, FrontRefusal>
+#[tactic(auto, using(crate::proofs::Few::few_enough))]
+fn tokens_of(alloc: Global, text: &[u8], kind: TextKind) -> Result<Vec<Token>, FrontRefusal>
     requires { length text.now ≤ 67108864 }
-    ensures tokens { IfOk result (λ v. AreTokens text.now v.items) }
-    ensures few { IfOk result (λ v. length v.items ≤ 100000) }
-    ensures refused { IfErr result (λ e. IsRefused text.now e) }
+    ensures tokens { IfOk result (λ v. AreTokens kind text.now v.items) }
+    ensures few { IfOk result (λ v. length v.items ≤ 350000) }
+    ensures refused { IfErr result (λ e. IsRefused kind text.now e) }
 {
-    match lex(alloc, text, TextKind::Plain) {
+    match lex(alloc, text, kind) {
         Ok(tokens) => Ok(tokens),
         Err(LexRefusal::At(number, pos)) => Err(FrontRefusal::At(number, pos)),
         Err(LexRefusal::NoMemory) => Err(FrontRefusal::NoMemory),
@@ -37,13 +38,13 @@ fn tokens_of(alloc: Global, text: &[u8]) -> Result<Vec<Token>, FrontRefusal>
 
 // The unit of a text.
 #[tactic(auto, using(c_tree::proofs::Programs::is_sound))]
-fn unit_of(alloc: Global, text: &[u8]) -> Result<Unit, FrontRefusal>
+fn unit_of(alloc: Global, text: &[u8], kind: TextKind) -> Result<Unit, FrontRefusal>
     requires { length text.now ≤ 67108864 }
-    ensures unit { IfOk result (λ u. IsUnit text.now (unit_shape u)) }
+    ensures unit { IfOk result (λ u. IsUnit kind text.now (unit_shape u)) }
     ensures sound { IfOk result (λ u. IsSound (unit_shape u)) }
-    ensures refused { IfErr result (λ e. IsRefused text.now e) }
+    ensures refused { IfErr result (λ e. IsRefused kind text.now e) }
 {
-    let tokens = tokens_of(alloc, text)?;
+    let tokens = tokens_of(alloc, text, kind)?;
     match parse(alloc, tokens.as_slice()) {
         Ok(unit) => Ok(unit),
         Err(ParseRefusal::Syntax(pos)) => Err(FrontRefusal::At(20, pos)),
@@ -51,16 +52,16 @@ fn unit_of(alloc: Global, text: &[u8]) -> Result<Unit, FrontRefusal>
     }
 }
 
-/// The program that a text of at most 67,108,864 bytes is: its tokens (C89, 2.1.1.2, 3.1 and 3.8), their unit (3.7),
-/// and that unit with its types (3.3); or its first refusal, the lexer's before the parser's and the parser's before
-/// the checker's, with its place. The same text is never read in two ways.
+/// The program that a text of at most 67,108,864 bytes is, plain or with probes: its tokens (C89, 2.1.1.2, 3.1 and 3.8),
+/// their unit (3.7), and that unit with its types (3.3); or its first refusal, the lexer's before the parser's and the
+/// parser's before the checker's, with its place. The same text of a kind is never read in two ways.
 #[tactic(auto, using(crate::proofs::One::is_one))]
-pub fn read(alloc: Global, text: &[u8]) -> Result<Program, FrontRefusal>
+pub fn read(alloc: Global, text: &[u8], kind: TextKind) -> Result<Program, FrontRefusal>
     requires { length text.now ≤ 67108864 }
-    ensures read { MatchResult result (GivesProgram text.now) (IsRefused text.now) }
-    ensures one { IsOne text.now }
+    ensures read { MatchResult result (GivesProgram kind text.now) (IsRefused kind text.now) }
+    ensures one { IsOne kind text.now }
 {
-    let unit = unit_of(alloc, text)?;
+    let unit = unit_of(alloc, text, kind)?;
     match check(alloc, unit) {
         Ok(program) => Ok(program),
         Err(TypeRefusal::At(number, pos)) => Err(FrontRefusal::At(number, pos)),

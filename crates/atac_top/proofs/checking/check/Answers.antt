@@ -1,4 +1,5 @@
 -- A text that the front end refuses; a program whose sites are refused; and one that is accepted.
+use Rattle.std.proofs.Common.{refl}
 use Rattle.c_syntax.specs.View.{unit_shape}
 use Rattle.c_tree.specs.Tables.{tables_shape}
 use Rattle.atac_top.specs.Programs.{by_front, by_sites}
@@ -6,12 +7,13 @@ use Rattle.atac_top.proofs.Reading.{refused_at, sites_refused}
 use Rattle.atac_top.proofs.checking.check.Goals as goal
 
 pub returns-in-Err-At : goal.returns-in-Err-At
-returns-in-Err-At c = by_front c.in-Err-At.number c.in-Err-At.pos (refused_at c.args.text.now _ _ _ c.in-Err-At.field-0-is c.in-Err-At.ensures.read) c.in_ok-said-in-Err-At.ensures
+returns-in-Err-At c = by_front c.in-Err-At.number c.in-Err-At.pos (refused_at _ c.args.text.now _ _ _ c.in-Err-At.field-0-is c.in-Err-At.ensures.read) c.in_ok-said-in-Err-At.ensures
 
 pub returns-in-Ok-sites : goal.returns-in-Ok-sites
 returns-in-Ok-sites c =
     let p = c.in-Ok.program in
     record {
+      program = refl;
       accepted = record { unit = unit_shape p.unit; tables = tables_shape p.tables; read = c.in-Ok.ensures.read; clean = c.in-Ok-sites.ensures.clean };
       lists = c.in-Ok-sites.ensures.numbered.lists;
     }

@@ -39,7 +39,7 @@ returns-in_err-line g c =
 pub returns : goal.returns
 returns g c =
     let f = c.in_ok-source.ensures in
-    let h = reading.check_accepts _ c.in-Accepts.sites _ _ c.in-Accepts.is c.as_slice.ensures.value c.in_ok-said.ensures in
+    let h = reading.check_accepts _ _ c.in-Accepts.sites _ _ c.in-Accepts.is c.as_slice.ensures.value c.in_ok-said.ensures in
     let n = counts_of h.accepted.tables h.accepted.unit in
     let done = check_done c.args.program.now f.found _ f.gives n in
     let line = c.as_bytes.ensures.value ∙ (c.in_ok-line.ensures ∙ ap (λ l. counts_text (counts_in l)) h.lists) in

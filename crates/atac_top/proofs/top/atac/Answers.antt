@@ -11,7 +11,7 @@ use Rattle.atac_top.proofs.top.atac.Goals as goal
 
 pub returns-in_default-clause-runs : goal.returns-in_default-clause-runs
 returns-in_default-clause-runs g c =
-    rw (← c.in_default.ensures) (record {
+    rw (← c.in_default.ensures.command) (record {
       end = BadWords;
       status_is = refl;
       goes = record { found = []; put = []; agrees = tt; comes = inr (record { understood = Refuses []; is = tt; comes = (refl, refl); keeps = refl }); bytes = known_nothing _; shelf_grows = shelf_stays _; out_grows = sink_stays _ };
@@ -20,7 +20,7 @@ returns-in_default-clause-runs g c =
 
 pub returns-in-Ok-clause-runs : goal.returns-in-Ok-clause-runs
 returns-in-Ok-clause-runs g c =
-    rw (← c.in-Some.ensures) (record {
+    rw (← c.in-Some.ensures.command) (record {
       end = IsDone;
       status_is = refl;
       goes = c.in-Ok.ensures;
@@ -29,12 +29,12 @@ returns-in-Ok-clause-runs g c =
 
 pub returns-in-Err-clause-complete : goal.returns-in-Err-clause-complete
 returns-in-Err-clause-complete g c =
-    rw (← c.in-Some.ensures) (complete_for (command_of c.in-Some.asked) _ _ _ _ (g.E.Sink.state c.args.err.now) (g.E.Sink.state c.tell.new.err) _
+    rw (← c.in-Some.ensures.command) (complete_for (command_of c.in-Some.asked) _ _ _ _ (g.E.Sink.state c.args.err.now) (g.E.Sink.state c.tell.new.err) _
     (record { end = end_of c.in-Err.stop; status_is = c.status.ensures.status; goes = c.in-Err.ensures; tells = c.tell.ensures }))
 
 pub returns-in-Ok-clause-headline : goal.returns-in-Ok-clause-headline
 returns-in-Ok-clause-headline g c = λ is.
-    rw (← c.in-Some.ensures) (shows one_program (command_of c.in-Some.asked) _ _ _ _ IsDone c.in-Ok.ensures refl)
+    rw (← c.in-Some.ensures.command) (shows one_program (command_of c.in-Some.asked) _ _ _ _ IsDone c.in-Ok.ensures refl)
 
 pub returns-in_default-clause-one_program : goal.returns-in_default-clause-one_program
 returns-in_default-clause-one_program g c = one_program

@@ -1,4 +1,4 @@
--- The tokens are at most 100,000.
+-- The tokens are at most 350,000.
 use Rattle.std.proofs.Common.{List, length, ap, arith}
 use Rattle.c_syntax.specs.View.{unit_shape}
 use Rattle.c_tree.proofs.Programs.{is_sound}
