@@ -21,10 +21,8 @@ const LINE: &[u8] = b"The  quick brown fox\tjumps over (the) lazy dog, and 12 mo
 // The text that a program reads.
 fn made_text(alloc: Global, bytes: u64) -> Result<Vec<u8>, AllocError> {
     let mut text = Vec::new(alloc);
-    let mut left = bytes;
-    while left >= 61 {
+    for _ in 0..bytes / 61 {
         text.extend_from_slice(LINE)?;
-        left -= 61;
     }
     Ok(text)
 }
