@@ -53,7 +53,7 @@ yes 'The  quick brown fox	jumps over (the) lazy dog, and 12 more.' | head -c 104
 "$atac" run -t 2000000 bench/filter.c "$work/input" > "$work/section"
 split "$work/section"
 printed=$(wc -c < "$work/output")
-head -c "$printed" "$work/expected" | cmp -s - "$work/output" && [ "$printed" -gt 100000 ] \
+head -c "$printed" "$work/expected" | cmp -s - "$work/output" && [ "$printed" -gt 40000 ] \
     && grep -q "^== turn limit turns 2000000 bytes $printed\$" "$work/end"
 tell $? "bench/filter.c on 1 MiB"
 
