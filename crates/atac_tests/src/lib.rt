@@ -6,9 +6,7 @@ mod arithmetic;
 #[cfg(test)]
 mod calls;
 #[cfg(test)]
-mod machine;
-#[cfg(test)]
-mod runs;
+mod events;
 #[cfg(test)]
 mod store;
 #[cfg(test)]

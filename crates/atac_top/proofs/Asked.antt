@@ -1,6 +1,5 @@
 -- The answers of the commands, as far as their steps have come.
 use Rattle.std.proofs.Common.{◌≡◌, ap, ◌∙◌, append-nil, List, [], ◌∷◌, ◌++◌, ℕ, Option, None, Some}
-use Rattle.first_tree.specs.Shape.{UnitShape}
 use Rattle.c_meaning.specs.Calls.{Source}
 use Rattle.atac_top.specs.Words.{Command, Check, Cover, Run}
 use Rattle.atac_top.specs.Ends.{End, IsDone, NotAccepted}
@@ -27,16 +26,16 @@ module _ (n : ℕ) (p i : List ℕ) (fp fi : Option (List ℕ)) where
     pub cover_refused : (said : List ℕ) → asked (Some (Cover n p i)) (Refuses said) (fp ∷ fi ∷ []) ≡ refused [] (NotAccepted p said)
     cover_refused said = rw h
 
-    module _ (P : Source) (Q : UnitShape) where
-      pub cover_stopped : (e : End) → gets i input_most fi ≡ Stops e → asked (Some (Cover n p i)) (Covers P Q) (fp ∷ fi ∷ []) ≡ refused [] e
+    module _ (P : Source) where
+      pub cover_stopped : (e : End) → gets i input_most fi ≡ Stops e → asked (Some (Cover n p i)) (Covers P) (fp ∷ fi ∷ []) ≡ refused [] e
       cover_stopped e l = rw (h, l)
 
       pub cover_done : (b : List ℕ) → gets i input_most fi ≡ Gets b
-          → asked (Some (Cover n p i)) (Covers P Q) (fp ∷ fi ∷ []) ≡ record { end = IsDone; sections = section i P b n ∷ []; rest = report Q b n; kept = None }
+          → asked (Some (Cover n p i)) (Covers P) (fp ∷ fi ∷ []) ≡ record { end = IsDone; sections = section i P b n ∷ []; rest = report P b n; kept = None }
       cover_done b l = rw (h, l)
 
-      pub cover_text : (b : List ℕ) → gets i input_most fi ≡ Gets b → text (asked (Some (Cover n p i)) (Covers P Q) (fp ∷ fi ∷ [])) ≡ section i P b n ++ report Q b n
-      cover_text b l = ap (λ (a : Answer). text a) (cover_done b l) ∙ ap (λ xs. xs ++ report Q b n) (append-nil (section i P b n))
+      pub cover_text : (b : List ℕ) → gets i input_most fi ≡ Gets b → text (asked (Some (Cover n p i)) (Covers P) (fp ∷ fi ∷ [])) ≡ section i P b n ++ report P b n
+      cover_text b l = ap (λ (a : Answer). text a) (cover_done b l) ∙ ap (λ xs. xs ++ report P b n) (append-nil (section i P b n))
 
 -- ---- the answer of `run`
 

@@ -9,12 +9,11 @@ use Rattle.c_lex.specs.declared.lexer.TextKind.TheVariants.{Plain, Probed}
 use Rattle.c_meaning.specs.Calls.{Source}
 use Rattle.atac_top.specs.Words.{Command, Check, Cover, Run}
 use Rattle.atac_top.specs.Ends.{End, IsDone, BadWords, NotAccepted, NotHeld, TooLong, ReadFailed, WriteFailed, OutOfMemory, status_of}
-use Rattle.first_tree.specs.Shape.{UnitShape}
-use Rattle.atac_top.specs.Programs.{IsFirst, IsAccepted, IsProbed, IsCovered, program_in, Rejection, by_front, by_sites, Refusal, rejected, not_yet, Unread, Counts, counts_of, counts_text, Reading, Refuses, Counted, Runs, Covers, IsUnderstood, section, report}
+use Rattle.atac_top.specs.Programs.{IsAccepted, IsProbed, IsCovered, program_in, Rejection, by_front, by_sites, Unread, Counts, counts_of, counts_text, Reading, Refuses, Counted, Runs, Covers, IsUnderstood, section, report}
 use Rattle.atac_top.specs.Answers.{Answer, asked, names, text, gets, Gets, input_most}
 use Rattle.atac_top.specs.Runs.{AllAgree, IsOfGot, Understands, Breaks, Answers, Goes}
 use Rattle.atac_top.specs.Runs as whole
-use Rattle.atac_top.specs.Claims.{IsHeld, Passes, IsProgram, IsRunnable, Supposes, Shows, NoFault}
+use Rattle.atac_top.specs.Claims.{IsHeld, Passes, IsRunnable, Supposes, Shows, NoFault}
 use Rattle.atac_top.specs.declared.status.Status.{Status}
 use Rattle.atac_top.specs.declared.status.Status.TheVariants.{Done, NoMemory}
 use Rattle.c_front.specs.Front as front
@@ -70,11 +69,6 @@ not_rejected source said a (by_sites u t number p read is_refused is) =
     let none : refusal t u ≡ None = rw (same_unit, same_tables) a.clean in
     absurd (cc)
 
--- nor refused, if it is a program of the first form
-not_refused : (source said : List ℕ) (P : UnitShape) → IsAccepted source → IsFirst source P → Refusal source said → ⊥
-not_refused source said P a first (rejected r) = not_rejected source said a r
-not_refused source said P a first (not_yet accepted none is) = none P first
-
 -- and it has the same counts, whenever it is counted
 same_counts : (source : List ℕ) (a b : IsAccepted source) → counts_of b.tables b.unit ≡ counts_of a.tables a.unit
 same_counts source a b =
@@ -93,10 +87,10 @@ checked_done : (program : List ℕ) (p : Option (List ℕ)) (source : List ℕ) 
 checked_done program p source (Refuses said) g a is = absurd (not_rejected source said a is)
 checked_done program p source (Counted n) g a is = check_done program p source g n ∙ ap told (is.counts ∙ same_counts source a is.accepted)
 checked_done program p source (Runs P) g a is = absurd is
-checked_done program p source (Covers P Q) g a is = absurd is
+checked_done program p source (Covers P) g a is = absurd is
 
 -- and it is the same program
-same_source : (source : List ℕ) (a b : IsAccepted source) → program_in b ≡ program_in a
+pub same_source : (source : List ℕ) (a b : IsAccepted source) → program_in b ≡ program_in a
 same_source source a b =
     let e : front.program b.unit b.tables ≡ front.program a.unit a.tables = same_program source a b.unit b.tables b.read in
     let same_unit : b.unit ≡ a.unit = cc in
@@ -117,19 +111,19 @@ one_probed source P Q a b =
     ap (λ u. record { unit = u; tables = Q.tables }) same_unit ∙ ap (λ t. record { unit = P.unit; tables = t }) same_tables
 
 -- it is covered
-covered_done : (n : ℕ) (program input : List ℕ) (p i : Option (List ℕ)) (source bytes : List ℕ) (Q : UnitShape) (u : Reading) → gets program 1048576 p ≡ Gets source → gets input input_most i ≡ Gets bytes
-    → IsAccepted source → IsFirst source Q → IsUnderstood (Cover n program input) source u → (asked (Some (Cover n program input)) u (p ∷ i ∷ [])).end ≡ IsDone
-covered_done n program input p i source bytes Q (Refuses said) g h a first is = absurd (not_refused source said Q a first is)
-covered_done n program input p i source bytes Q (Counted m) g h a first is = absurd is
-covered_done n program input p i source bytes Q (Runs R) g h a first is = absurd is
-covered_done n program input p i source bytes Q (Covers R S) g h a first is = ap (λ (a : Answer). a.end) (cover_done n program input p i source g R S bytes h)
+covered_done : (n : ℕ) (program input : List ℕ) (p i : Option (List ℕ)) (source bytes : List ℕ) (u : Reading) → gets program 1048576 p ≡ Gets source → gets input input_most i ≡ Gets bytes
+    → IsAccepted source → IsUnderstood (Cover n program input) source u → (asked (Some (Cover n program input)) u (p ∷ i ∷ [])).end ≡ IsDone
+covered_done n program input p i source bytes (Refuses said) g h a is = absurd (not_rejected source said a is)
+covered_done n program input p i source bytes (Counted m) g h a is = absurd is
+covered_done n program input p i source bytes (Runs R) g h a is = absurd is
+covered_done n program input p i source bytes (Covers R) g h a is = ap (λ (a : Answer). a.end) (cover_done n program input p i source g R bytes h)
 
 -- it is run
 ran_done : (n : ℕ) (program input : List ℕ) (p i : Option (List ℕ)) (source bytes : List ℕ) (P : Source) (u : Reading) → gets program 67108864 p ≡ Gets source → gets input input_most i ≡ Gets bytes
     → IsProbed source P → IsUnderstood (Run n program input) source u → (asked (Some (Run n program input)) u (p ∷ i ∷ [])).end ≡ IsDone
 ran_done n program input p i source bytes P (Refuses said) g h read is = absurd (not_unread source said P read is)
 ran_done n program input p i source bytes P (Counted m) g h read is = absurd is
-ran_done n program input p i source bytes P (Covers R S) g h read is = absurd is
+ran_done n program input p i source bytes P (Covers R) g h read is = absurd is
 ran_done n program input p i source bytes P (Runs R) g h read is = ap (λ (a : Answer). a.end) (run_done n program input p i source g R bytes h)
 
 supposed : (command : Command) (says : List ℕ → Said) (found : List (Option (List ℕ))) (u : Reading) → AllAgree says (names (Some command)) found → Supposes command says → Understands (Some command) found u → (asked (Some command) u found).end ≡ IsDone
@@ -140,7 +134,7 @@ supposed (Check program) says [] u agrees h is = absurd agrees
 supposed (Check program) says (p ∷ i ∷ rest) u agrees h is = absurd agrees.1
 supposed (Cover n program input) says (p ∷ i ∷ []) u agrees h is =
     let g = got program 1048576 _ p h.0.held agrees.0 in
-    covered_done n program input p i _ _ h.0.program u g (got input input_most _ i h.1 agrees.1.0) h.0.accepted h.0.first (subst (λ x. IsOfGot (Cover n program input) x u) g is)
+    covered_done n program input p i _ _ u g (got input input_most _ i h.1 agrees.1.0) h.0.accepted (subst (λ x. IsOfGot (Cover n program input) x u) g is)
 supposed (Cover n program input) says [] u agrees h is = absurd agrees
 supposed (Cover n program input) says (p ∷ []) u agrees h is = absurd agrees.1
 supposed (Cover n program input) says (p ∷ i ∷ j ∷ rest) u agrees h is = absurd agrees.1.1
@@ -160,32 +154,31 @@ complete_for command shelf shelf' out out' err err' status h supposes fine =
 
 -- one program a text
 abbrev pub OneProgram : Type 0
-OneProgram = (source : List ℕ) (P Q : UnitShape) → IsFirst source P → IsFirst source Q → Q ≡ P
+OneProgram = (source : List ℕ) (a b : IsAccepted source) → program_in b ≡ program_in a
 
-covered_text : OneProgram → (n : ℕ) (program input : List ℕ) (p i : Option (List ℕ)) (source bytes : List ℕ) (Q : UnitShape) (u : Reading) → gets program 1048576 p ≡ Gets source → gets input input_most i ≡ Gets bytes
-    → (a : IsAccepted source) → IsFirst source Q → IsUnderstood (Cover n program input) source u → text (asked (Some (Cover n program input)) u (p ∷ i ∷ [])) ≡ section input (program_in a) bytes n ++ report Q bytes n
-covered_text one n program input p i source bytes Q (Refuses said) g h a first is = absurd (not_refused source said Q a first is)
-covered_text one n program input p i source bytes Q (Counted m) g h a first is = absurd is
-covered_text one n program input p i source bytes Q (Runs R) g h a first is = absurd is
-covered_text one n program input p i source bytes Q (Covers R S) g h a first is =
-    cover_text n program input p i source g R S bytes h
-    ∙ ap (λ (x : Source). section input x bytes n ++ report S bytes n) (is.program ∙ same_source source a is.accepted)
-    ∙ ap (λ (x : UnitShape). section input (program_in a) bytes n ++ report x bytes n) (one source Q S first is.first)
+covered_text : (n : ℕ) (program input : List ℕ) (p i : Option (List ℕ)) (source bytes : List ℕ) (u : Reading) → gets program 1048576 p ≡ Gets source → gets input input_most i ≡ Gets bytes
+    → (a : IsAccepted source) → IsUnderstood (Cover n program input) source u → text (asked (Some (Cover n program input)) u (p ∷ i ∷ [])) ≡ section input (program_in a) bytes n ++ report (program_in a) bytes n
+covered_text n program input p i source bytes (Refuses said) g h a is = absurd (not_rejected source said a is)
+covered_text n program input p i source bytes (Counted m) g h a is = absurd is
+covered_text n program input p i source bytes (Runs R) g h a is = absurd is
+covered_text n program input p i source bytes (Covers R) g h a is =
+    cover_text n program input p i source g R bytes h
+    ∙ ap (λ (x : Source). section input x bytes n ++ report x bytes n) (is.program ∙ same_source source a is.accepted)
 
-shown_text : OneProgram → (n : ℕ) (program input : List ℕ) (says : List ℕ → Said) (found : List (Option (List ℕ))) (u : Reading) → AllAgree says (names (Some (Cover n program input))) found → Understands (Some (Cover n program input)) found u
-    → (p : IsProgram (says program)) (i : IsHeld (says input) input_most) → text (asked (Some (Cover n program input)) u found) ≡ section input (program_in p.accepted) i.bytes n ++ report p.program i.bytes n
-shown_text one n program input says (f ∷ g ∷ []) u agrees is p i =
+shown_text : (n : ℕ) (program input : List ℕ) (says : List ℕ → Said) (found : List (Option (List ℕ))) (u : Reading) → AllAgree says (names (Some (Cover n program input))) found → Understands (Some (Cover n program input)) found u
+    → (p : Passes (says program)) (i : IsHeld (says input) input_most) → text (asked (Some (Cover n program input)) u found) ≡ section input (program_in p.accepted) i.bytes n ++ report (program_in p.accepted) i.bytes n
+shown_text n program input says (f ∷ g ∷ []) u agrees is p i =
     let got_source = got program 1048576 _ f p.held agrees.0 in
-    covered_text one n program input f g _ _ p.program u got_source (got input input_most _ g i agrees.1.0) p.accepted p.first (subst (λ x. IsOfGot (Cover n program input) x u) got_source is)
-shown_text one n program input says [] u agrees is p i = absurd agrees
-shown_text one n program input says (f ∷ []) u agrees is p i = absurd agrees.1
-shown_text one n program input says (f ∷ g ∷ k ∷ rest) u agrees is p i = absurd agrees.1.1
+    covered_text n program input f g _ _ u got_source (got input input_most _ g i agrees.1.0) p.accepted (subst (λ x. IsOfGot (Cover n program input) x u) got_source is)
+shown_text n program input says [] u agrees is p i = absurd agrees
+shown_text n program input says (f ∷ []) u agrees is p i = absurd agrees.1
+shown_text n program input says (f ∷ g ∷ k ∷ rest) u agrees is p i = absurd agrees.1.1
 
 ran_text : (n : ℕ) (program input : List ℕ) (p i : Option (List ℕ)) (source bytes : List ℕ) (P : Source) (u : Reading) → gets program 67108864 p ≡ Gets source → gets input input_most i ≡ Gets bytes
     → IsProbed source P → IsUnderstood (Run n program input) source u → text (asked (Some (Run n program input)) u (p ∷ i ∷ [])) ≡ section input P bytes n
 ran_text n program input p i source bytes P (Refuses said) g h read is = absurd (not_unread source said P read is)
 ran_text n program input p i source bytes P (Counted m) g h read is = absurd is
-ran_text n program input p i source bytes P (Covers R S) g h read is = absurd is
+ran_text n program input p i source bytes P (Covers R) g h read is = absurd is
 ran_text n program input p i source bytes P (Runs R) g h read is = run_text n program input p i source g R bytes h ∙ ap (λ (x : Source). section input x bytes n) (one_probed source P R read is)
 
 run_shown : (n : ℕ) (program input : List ℕ) (says : List ℕ → Said) (found : List (Option (List ℕ))) (u : Reading) → AllAgree says (names (Some (Run n program input))) found → Understands (Some (Run n program input)) found u
@@ -219,13 +212,13 @@ done_put c shelf shelf' out out' (NotAccepted file said) h is = absurd (cc)
 done_put c shelf shelf' out out' (NotHeld file) h is = absurd (cc)
 done_put c shelf shelf' out out' (TooLong file) h is = absurd (cc)
 
-pub shows : OneProgram → (command : Command) (shelf shelf' : ShelfState) (out out' : SinkState) (end : End) → Goes (Some command) shelf shelf' out out' end → status_of end ≡ Done → Shows command shelf.says out out'
-shows one (Check program) shelf shelf' out out' end h is = λ p.
+pub shows : (command : Command) (shelf shelf' : ShelfState) (out out' : SinkState) (end : End) → Goes (Some command) shelf shelf' out out' end → status_of end ≡ Done → Shows command shelf.says out out'
+shows (Check program) shelf shelf' out out' end h is = λ p.
     let d = done_put (Some (Check program)) shelf shelf' out out' end h is in
     h.bytes ∙ ap (append_known out.bytes) (d.2 ∙ counted_text program shelf.says h.found d.0 h.agrees d.1 p)
-shows one (Cover n program input) shelf shelf' out out' end h is = λ p i.
+shows (Cover n program input) shelf shelf' out out' end h is = λ p i.
     let d = done_put (Some (Cover n program input)) shelf shelf' out out' end h is in
-    h.bytes ∙ ap (append_known out.bytes) (d.2 ∙ shown_text one n program input shelf.says h.found d.0 h.agrees d.1 p i)
-shows one (Run n program input) shelf shelf' out out' end h is = λ p i.
+    h.bytes ∙ ap (append_known out.bytes) (d.2 ∙ shown_text n program input shelf.says h.found d.0 h.agrees d.1 p i)
+shows (Run n program input) shelf shelf' out out' end h is = λ p i.
     let d = done_put (Some (Run n program input)) shelf shelf' out out' end h is in
     h.bytes ∙ ap (append_known out.bytes) (d.2 ∙ run_shown n program input shelf.says h.found d.0 h.agrees d.1 p i)

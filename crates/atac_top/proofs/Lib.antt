@@ -5,6 +5,5 @@ pub mod Found
 pub mod Growing
 pub mod Limits
 pub mod Lines
-pub mod Plain
 pub mod Reading
 pub mod Running

@@ -1,25 +1,19 @@
 -- What was understood of a text, by what the code answered.
 use Rattle.std.proofs.Common.{◌≡◌, sym, ◌∙◌, subst, List, [], ℕ, Option, None, Some}
-use Rattle.std.specs.Prelude.{string_bytes, MatchOption}
+use Rattle.std.specs.Prelude.{string_bytes}
 use Rattle.atac_base.specs.declared.place.Pos.{Pos}
 use Rattle.c_lex.specs.declared.lexer.TextKind.{TextKind}
 use Rattle.c_routines.specs.Routines.{source_of}
 use Rattle.c_front.specs.declared.front.FrontRefusal.{FrontRefusal}
 use Rattle.c_front.specs.declared.front.FrontRefusal.TheVariants.{At}
 use Rattle.c_front.specs.Front as front
-use Rattle.atac_top.specs.declared.program.First.{First}
 use Rattle.atac_top.specs.declared.program.Understood.{Understood}
 use Rattle.atac_top.specs.declared.program.Runnable.{Runnable}
 use Rattle.atac_top.specs.declared.program.Runnable.TheVariants as runnables
 use Rattle.atac_top.specs.declared.program.Reading.{Reading}
 use Rattle.atac_top.specs.declared.program.Reading.TheVariants as reading
-use Rattle.first_tree.specs.declared.token.Token.{Token}
-use Rattle.first_tree.specs.Shape.{UnitShape}
-use Rattle.first_tokens.specs.Tokens.{tokens_of}
-use Rattle.first_form.specs.Grammar.{IsProgram}
-use Rattle.first_form.proofs.Whole.{program_found, found_only}
-use Rattle.atac_top.specs.Programs.{Rejection, Refusal, Unread, IsAccepted, IsProbed, IsFirst}
-use Rattle.atac_top.specs.Understanding.{HasSites, CheckedAs, Reads, CoveredAs, ReadAs, RunAs}
+use Rattle.atac_top.specs.Programs.{Rejection, Unread, IsProbed}
+use Rattle.atac_top.specs.Understanding.{HasSites, CheckedAs, CoveredAs, ReadAs, RunAs}
 use Rattle.atac_top.specs.declared.checking.Checking.{Checking}
 use Rattle.atac_top.specs.declared.checking.Checking.TheVariants as checking
 use Rattle.c_sites.specs.declared.numbered.Sites.{Sites}
@@ -28,7 +22,7 @@ use Rattle.c_sites.specs.declared.sites.SiteRefusal.TheVariants as site
 use Rattle.c_sites.specs.Refused as sites
 use Rattle.c_tree.specs.declared.program.Program.{Program}
 
-pub read_refused : (r : Reading) (said : _) (s t : List ℕ) → r ≡ reading.Refuses said → s ≡ t → ReadAs s r → Refusal t (string_bytes said)
+pub read_refused : (r : Reading) (said : _) (s t : List ℕ) → r ≡ reading.Refuses said → s ≡ t → ReadAs s r → Rejection t (string_bytes said)
 read_refused r said s t e same h = subst (λ (x : List ℕ). ReadAs x (reading.Refuses said)) same (subst (ReadAs s) e h)
 
 pub read_given : (r : Reading) (u : Understood) (s t : List ℕ) → r ≡ reading.Covers u → s ≡ t → ReadAs s r → CoveredAs t u
@@ -53,22 +47,3 @@ sites_refused P e n p is h = subst (sites.IsRefused P) is h
 -- the front end refuses the text, by this number and at this place
 pub refused_at : (kind : TextKind) (source : List ℕ) (e : FrontRefusal) (n : ℕ) (p : Pos) → e ≡ At n p → front.IsRefused kind source e → front.IsRead kind source (front.refused n p)
 refused_at kind source e n p is h = subst (front.IsRefused kind source) is h
-
--- the text is no program of the first form, or this one
-abbrev pub FirstRead : List ℕ → Option First → Type 0
-FirstRead source o = MatchOption o ((P : UnitShape) → IsFirst source P → ⊥) (Reads source)
-
-pub none_first : (source : List ℕ) (o : Option First) → o ≡ None → FirstRead source o → (P : UnitShape) → IsFirst source P → ⊥
-none_first source o e h = subst (FirstRead source) e h
-
-pub some_first : (source : List ℕ) (o : Option First) (u : First) → o ≡ Some u → FirstRead source o → Reads source u
-some_first source o u e h = subst (FirstRead source) e h
-
--- ONE PROGRAM A TEXT
-
-same_tokens : (source : List ℕ) (ts us : List Token) → tokens_of source ≡ Some ts → tokens_of source ≡ Some us → us ≡ ts
-same_tokens source ts us e f = let h : Some us ≡ Some ts = sym f ∙ e in cc
-
-pub one_program : (source : List ℕ) (P Q : UnitShape) → IsFirst source P → IsFirst source Q → Q ≡ P
-one_program source P Q a b =
-    found_only a.tokens P [] (program_found a.tokens P a.program) Q (subst (λ (x : List Token). IsProgram x Q) (same_tokens source a.tokens b.tokens a.cut b.cut) b.program)

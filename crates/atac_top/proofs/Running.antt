@@ -1,32 +1,45 @@
--- The instrumented program's run, as the program's own.
-use Rattle.std.proofs.Common.{◌≡◌, sym, ap, ◌∙◌, List, [], ℕ, Bool, None}
+-- The run of the program with its probes, as the program's own.
+use Rattle.std.proofs.Common.{◌≡◌, sym, ap, ◌∙◌, List, [], ◌∷◌, ◌++◌, ◌+◌, ℕ, zero, suc, Bool, Some, slice_get, take, add-one}
+use Rattle.atac_base.specs.declared.place.Pos.{Pos}
 use Rattle.atac_base.specs.declared.probes.Event.{Event}
-use Rattle.first_tree.specs.Shape.{UnitShape}
-use Rattle.c_machine.specs.declared.end.End.{End}
-use Rattle.c_machine.specs.Run.{Outcome, run_of}
-use Rattle.c_machine.specs.Simulates.{logged_outcome}
-use Rattle.c_machine.proofs.Simulation.{simulates}
+use Rattle.c_meaning.specs.declared.end.RunEnd.{RunEnd}
+use Rattle.c_meaning.specs.Calls.{Source}
+use Rattle.c_meaning.specs.Deeds.{told}
+use Rattle.c_meaning.specs.Runs.{Outcome, run, run_heard}
+use Rattle.c_meaning.proofs.QuietCalls.{run_is_quiet}
+use Rattle.c_routines.specs.Routines.{source_of}
+use Rattle.c_machine.specs.Run.{outcome_of}
+use Rattle.probe_in.specs.Simulation.{as_logged}
 use Rattle.cover_core.specs.Covered.{covers}
 use Rattle.cover_report.specs.Texts.{report_text}
 use Rattle.cover_report.proofs.Lines.{report_same}
-use Rattle.atac_top.specs.Programs.{run_on, report}
+use Rattle.atac_top.specs.Sections.{section_text}
+use Rattle.atac_top.specs.Programs.{block_places, section, report}
 use Rattle.atac_top.specs.Understanding.{Holds}
-use Rattle.atac_top.specs.declared.program.First as code
-use Rattle.first_tree.specs.View.{program_shape}
-use Rattle.atac_top.proofs.Plain.{plain_program}
+use Rattle.atac_top.specs.declared.program.Understood.{Understood}
 
--- what a run with probes gives
-abbrev pub given : List ℕ → ℕ → End → List Event → Outcome
-given output turns end log = record { output = output; turns = turns; end = end; events = []; log = log }
+module _ (P : Source) (u : Understood) (input : List ℕ) (limit : ℕ) (r : RunEnd) (log : List Event) (h : Holds P u) (ran : run (source_of u.probed) input limit ≡ outcome_of r log) where
+  same_run : as_logged (run_heard P input limit) ≡ outcome_of r log
+  same_run = sym (h.simulates input limit) ∙ ran
 
-same_run : (P : UnitShape) (u : code.First) (input output : List ℕ) (limit turns : ℕ) (end : End) (log : List Event) → Holds P u → run_of None (program_shape u.program) input limit ≡ given output turns end log → logged_outcome (run_on P input limit) ≡ given output turns end log
-same_run P u input output limit turns end log h ran =
-    sym (simulates P input limit (plain_program h.tokens P h.is) h.is.few) ∙ ap (λ (Q : UnitShape). run_of None Q input limit) (sym h.program) ∙ ran
+  same_covers : (k : ℕ) → covers log k ≡ covers (told (run_heard P input limit).deeds) k
+  same_covers k = ap (λ (o : Outcome). covers o.log k) (sym same_run)
 
-same_covers : (P : UnitShape) (u : code.First) (input output : List ℕ) (limit turns : ℕ) (end : End) (log : List Event) → Holds P u → run_of None (program_shape u.program) input limit ≡ given output turns end log → (k : ℕ) → covers log k ≡ covers (run_on P input limit).events k
-same_covers P u input output limit turns end log h ran k = ap (λ (o : Outcome). covers o.log k) (sym (same_run P u input output limit turns end log h ran))
+  pub same_section : (name : List ℕ) → section_text name (outcome_of r log) ≡ section name P input limit
+  same_section name = ap (section_text name) (sym same_run) ∙ sym (ap (section_text name) (run_is_quiet P input limit))
 
-pub same_report : (P : UnitShape) (u : code.First) (input output : List ℕ) (limit turns : ℕ) (end : End) (log : List Event) (marks : ℕ → Bool) → Holds P u → run_of None (program_shape u.program) input limit ≡ given output turns end log → ((k : ℕ) → marks k ≡ covers log k) → report_text u.items marks ≡ report P input limit
-same_report P u input output limit turns end log marks h ran marked =
-    report_same marks (covers (run_on P input limit).events) (λ k. marked k ∙ same_covers P u input output limit turns end log h ran k) u.items
-    ∙ ap (λ (bs : List _). report_text (record { blocks = bs }) (covers (run_on P input limit).events)) h.blocks_are
+  pub same_report : (marks : ℕ → Bool) → ((k : ℕ) → marks k ≡ covers log k) → report_text u.items marks ≡ report P input limit
+  same_report marks marked =
+      report_same marks (covers (told (run_heard P input limit).deeds)) (λ k. marked k ∙ same_covers k) u.items
+      ∙ ap (λ (bs : List _). report_text (record { blocks = bs }) (covers (told (run_heard P input limit).deeds))) h.blocks_are
+
+-- one more block
+pub take_at : (ps : List Pos) (k j : ℕ) (p : Pos) → slice_get ps j ≡ Some p → j ≡ k → take k ps ++ p ∷ [] ≡ take (k + 1) ps
+take_at ps k j p at same = rw add-one (sym (taken ps k j p at same))
+  where
+    taken : (qs : List Pos) (i l : ℕ) (q : Pos) → slice_get qs l ≡ Some q → l ≡ i → take (suc i) qs ≡ take i qs ++ q ∷ []
+    taken [] i l q e s = absurd (cc)
+    taken (r ∷ qs) zero zero q e s = ap (λ x. x ∷ []) (cc)
+    taken (r ∷ qs) zero (suc l) q e s = absurd (cc)
+    taken (r ∷ qs) (suc i) zero q e s = absurd (cc)
+    taken (r ∷ qs) (suc i) (suc l) q e s = ap (λ xs. r ∷ xs) (taken qs i l q e (cc))

@@ -3,7 +3,6 @@ use Rattle.std.specs.Prelude.{ℕ, cond, leb, List, [], ◌∷◌, ◌++◌, len
 use Rattle.c_meaning.specs.Calls.{Source}
 use Rattle.atac_top.specs.Words.{Command, Check, Cover, Run, fetched}
 use Rattle.atac_top.specs.Ends.{End, IsDone, BadWords, NotAccepted, NotHeld, TooLong}
-use Rattle.first_tree.specs.Shape.{UnitShape}
 use Rattle.atac_top.specs.Programs.{Counts, Reading, Refuses, Counted, Runs, Covers, counts_text, section, report}
 
 -- An answer: how the call ends, what it puts (whole sections, and then a rest), and what it keeps under which name.
@@ -48,9 +47,9 @@ run_by file (Refuses said) go = refused [] (NotAccepted file said)
 run_by file (Runs P) go = go P
 run_by file understood go = refused [] BadWords
 
-abbrev pub covered_by : List ℕ → Reading → (Source → UnitShape → Answer) → Answer
+abbrev pub covered_by : List ℕ → Reading → (Source → Answer) → Answer
 covered_by file (Refuses said) go = refused [] (NotAccepted file said)
-covered_by file (Covers P Q) go = go P Q
+covered_by file (Covers P) go = go P
 covered_by file understood go = refused [] BadWords
 
 abbrev pub input_most : ℕ
@@ -64,9 +63,9 @@ answer (Check program) understood (p ∷ []) =
     record { end = IsDone; sections = []; rest = counts_text n; kept = None }))
 answer (Cover limit program input) understood (p ∷ i ∷ []) =
     given [] (gets program 1048576 p) (λ source.
-    covered_by program understood (λ P Q.
+    covered_by program understood (λ P.
     given [] (gets input input_most i) (λ bytes.
-    record { end = IsDone; sections = section input P bytes limit ∷ []; rest = report Q bytes limit; kept = None })))
+    record { end = IsDone; sections = section input P bytes limit ∷ []; rest = report P bytes limit; kept = None })))
 answer (Run limit program input) understood (p ∷ i ∷ []) =
     given [] (gets program 67108864 p) (λ source.
     run_by program understood (λ P.

@@ -4,8 +4,7 @@ use Rattle.std.specs.Io.KnownBytes.{append_known}
 use Rattle.atac_base.specs.Outside.{ShelfState, SinkState, Said, Rose}
 use Rattle.c_meaning.specs.Calls.{Source}
 use Rattle.atac_top.specs.Words.{Command, Check, Cover, Run}
-use Rattle.first_tree.specs.Shape.{UnitShape}
-use Rattle.atac_top.specs.Programs.{IsFirst, IsAccepted, IsProbed, program_in, counts_of, counts_text, section, report}
+use Rattle.atac_top.specs.Programs.{IsAccepted, IsProbed, program_in, counts_of, counts_text, section, report}
 use Rattle.atac_top.specs.Answers.{input_most}
 
 -- The name is told, and held within the limit.
@@ -19,13 +18,6 @@ pub record Passes (said : Said) : Type 0 where
   pub held : IsHeld said 1048576
   pub accepted : IsAccepted held.bytes
 
--- The same of one of the first form.
-pub record IsProgram (said : Said) : Type 0 where
-  pub held : IsHeld said 1048576
-  pub accepted : IsAccepted held.bytes
-  pub program : UnitShape
-  pub first : IsFirst held.bytes program
-
 -- The same of one that is to be run, with probes or without.
 pub record IsRunnable (said : Said) : Type 0 where
   pub held : IsHeld said 67108864
@@ -34,7 +26,7 @@ pub record IsRunnable (said : Said) : Type 0 where
 
 abbrev pub Supposes : Command → (List ℕ → Said) → Type 0
 Supposes (Check program) says = Passes (says program)
-Supposes (Cover limit program input) says = IsProgram (says program) × IsHeld (says input) input_most
+Supposes (Cover limit program input) says = Passes (says program) × IsHeld (says input) input_most
 Supposes (Run limit program input) says = IsRunnable (says program) × IsHeld (says input) input_most
 
 -- What the sink gains when the call is done: the line of counts; the section of the program's own run, and the report; that section.
@@ -42,7 +34,7 @@ abbrev pub Shows : Command → (List ℕ → Said) → SinkState → SinkState �
 Shows (Check program) says out out' =
     (p : Passes (says program)) → out'.bytes ≡ append_known out.bytes (counts_text (counts_of p.accepted.tables p.accepted.unit))
 Shows (Cover limit program input) says out out' =
-    (p : IsProgram (says program)) (i : IsHeld (says input) input_most) → out'.bytes ≡ append_known out.bytes (section input (program_in p.accepted) i.bytes limit ++ report p.program i.bytes limit)
+    (p : Passes (says program)) (i : IsHeld (says input) input_most) → out'.bytes ≡ append_known out.bytes (section input (program_in p.accepted) i.bytes limit ++ report (program_in p.accepted) i.bytes limit)
 Shows (Run limit program input) says out out' =
     (p : IsRunnable (says program)) (i : IsHeld (says input) input_most) → out'.bytes ≡ append_known out.bytes (section input p.program i.bytes limit)
 

@@ -9,27 +9,17 @@ use Rattle.c_front.specs.Front as front
 use Rattle.c_front.specs.Names.{name}
 use Rattle.c_items.specs.Items.{Item}
 use Rattle.c_items.specs.Units.{items_of}
+use Rattle.c_sites.specs.Kinds.{blocks}
 use Rattle.c_sites.specs.Lists.{Lists, lists_of}
 use Rattle.c_sites.specs.Numbers.{names_of}
 use Rattle.c_sites.specs.Refused.{refusal}
 use Rattle.c_meaning.specs.Calls.{Source}
-use Rattle.c_meaning.specs.Runs.{run}
+use Rattle.c_meaning.specs.Deeds.{told}
+use Rattle.c_meaning.specs.Runs.{run, run_heard}
 use Rattle.atac_top.specs.Words.{Command, Check, Cover, Run}
-use Rattle.first_tree.specs.declared.token.Token.{Token}
-use Rattle.first_tree.specs.Shape.{UnitShape}
-use Rattle.first_tree.specs.Blocks.{blocks}
-use Rattle.first_tokens.specs.Tokens.{tokens_of}
-use Rattle.first_form.specs.Grammar.{IsProgram}
-use Rattle.c_machine.specs.Run.{Outcome, run_of}
 use Rattle.cover_core.specs.Covered.{covers}
 use Rattle.cover_report.specs.Texts.{report_text}
 use Rattle.atac_top.specs.Sections.{section_text}
-
--- The text is this program of the first form.
-pub record IsFirst (source : List ℕ) (P : UnitShape) : Type 0 where
-  pub tokens : List Token
-  pub cut : tokens_of source ≡ Some tokens
-  pub program : IsProgram tokens P
 
 -- What is said of a program that is refused: the place, the number and its name.
 abbrev pub refusal_text : ℕ → Pos → List ℕ
@@ -50,11 +40,6 @@ program_in a = record { unit = a.unit; tables = a.tables }
 pub data Rejection (source said : List ℕ) : Type 0 where
   by_front : (number : ℕ) (p : Pos) → front.IsRead Plain source (front.refused number p) → said ≡ refusal_text number p → Rejection source said
   by_sites : (u : full.UnitShape) (t : TablesShape) (number : ℕ) (p : Pos) → front.IsRead Plain source (front.program u t) → refusal t u ≡ Some (number, p) → said ≡ refusal_text number p → Rejection source said
-
--- Why a text is refused that is to be covered: it is not accepted, or it is no program of the first form.
-pub data Refusal (source said : List ℕ) : Type 0 where
-  rejected : Rejection source said → Refusal source said
-  not_yet : IsAccepted source → ((P : UnitShape) → IsFirst source P → ⊥) → said ≡ refusal_text 29 (record { line = 1; col = 1 }) → Refusal source said
 
 -- Why a text is refused that is to be run: the front end refuses it, read as a text with probes.
 pub record Unread (source said : List ℕ) : Type 0 where
@@ -90,30 +75,29 @@ counts_text n =
     codes "accepted: " ++ (decimal n.blocks ++ (codes " blocks, " ++ (decimal n.decisions ++ (codes " decisions, " ++ (decimal n.definitions ++ (codes " definitions, " ++ (decimal n.uses ++ codes " uses\n")))))))
 
 -- What a text is read as: refused, with what is said of it; accepted, with its counts; a program to be run; or one to be
--- covered, which is of the first form too.
+-- covered.
 pub data Reading : Type 0 where
   Refuses : (said : List ℕ) → Reading
   Counted : (n : Counts) → Reading
   Runs : (P : Source) → Reading
-  Covers : (P : Source) (Q : UnitShape) → Reading
+  Covers : (P : Source) → Reading
 
 -- The text is accepted, and has these counts.
 pub record IsCounted (source : List ℕ) (n : Counts) : Type 0 where
   pub accepted : IsAccepted source
   pub counts : n ≡ counts_of accepted.tables accepted.unit
 
--- The text is accepted as P, and is Q.
-pub record IsCovered (source : List ℕ) (P : Source) (Q : UnitShape) : Type 0 where
+-- The text is accepted as P.
+pub record IsCovered (source : List ℕ) (P : Source) : Type 0 where
   pub accepted : IsAccepted source
   pub program : P ≡ program_in accepted
-  pub first : IsFirst source Q
 
 -- What a command understands of its program's text.
 abbrev pub IsUnderstood : Command → List ℕ → Reading → Type 0
 IsUnderstood (Check program) source (Refuses said) = Rejection source said
 IsUnderstood (Check program) source (Counted n) = IsCounted source n
-IsUnderstood (Cover limit program input) source (Refuses said) = Refusal source said
-IsUnderstood (Cover limit program input) source (Covers P Q) = IsCovered source P Q
+IsUnderstood (Cover limit program input) source (Refuses said) = Rejection source said
+IsUnderstood (Cover limit program input) source (Covers P) = IsCovered source P
 IsUnderstood (Run limit program input) source (Refuses said) = Unread source said
 IsUnderstood (Run limit program input) source (Runs P) = IsProbed source P
 IsUnderstood command source understood = ⊥
@@ -122,10 +106,10 @@ IsUnderstood command source understood = ⊥
 abbrev pub section : List ℕ → Source → List ℕ → ℕ → List ℕ
 section input P bytes limit = section_text input (run P bytes limit)
 
--- The run of a program of the first form, with the events of its blocks.
-abbrev pub run_on : UnitShape → List ℕ → ℕ → Outcome
-run_on Q bytes limit = run_of (Some 0) Q bytes limit
+-- The places of a program's blocks, by number.
+abbrev pub block_places : Source → List Pos
+block_places P = blocks (items_of P.tables P.unit)
 
--- The report: a block is covered where its event is among those of the run.
-abbrev pub report : UnitShape → List ℕ → ℕ → List ℕ
-report Q bytes limit = report_text (record { blocks = blocks Q }) (covers (run_on Q bytes limit).events)
+-- The report: a block is covered where its event is among those that are told of the program's own run.
+abbrev pub report : Source → List ℕ → ℕ → List ℕ
+report P bytes limit = report_text (record { blocks = block_places P }) (covers (told (run_heard P bytes limit).deeds))

@@ -5,7 +5,7 @@ ghost use Rattle.atac_top.specs.Runs.{Goes};
 
 use crate::checking::{self, Checking, counts_of};
 use crate::outside::{fetch, put};
-use crate::program::{Reading, Runnable, read_to_run, report_of, section_of, understand};
+use crate::program::{self, Reading, Runnable, read_to_run, section_of, understand};
 use crate::stop::Stop;
 use crate::words::Asked;
 use atac_base::outside::{Shelf, Sink};
@@ -58,10 +58,9 @@ fn cover<'a, S: Shelf, W: Sink>(
         Reading::Covers(understood) => understood,
     };
     let bytes = fetch(alloc, shelf, input, INPUT_MOST)?;
-    let section = section_of(alloc, &understood.program, limit, input, bytes.as_slice())?;
-    let report = report_of(alloc, &understood.first, limit, bytes.as_slice())?;
-    put(out, section.as_slice())?;
-    put(out, report.as_slice())
+    let covering = program::cover(alloc, &understood, limit, input, bytes.as_slice())?;
+    put(out, covering.section.as_slice())?;
+    put(out, covering.report.as_slice())
 }
 
 // Runs the program, plain or with probes, on the input and puts the section.

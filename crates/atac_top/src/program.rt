@@ -1,36 +1,39 @@
-ghost use Rattle.std.specs.Prelude.{◌≡◌, ◌≤◌, length, IfOk, MatchOption};
-ghost use Rattle.first_tree.specs.Shape.{UnitShape};
+ghost use Rattle.std.specs.Prelude.{◌≡◌, ◌≤◌, length, IfOk};
+ghost use Rattle.c_meaning.specs.Calls.{Source};
 ghost use Rattle.c_routines.specs.Routines.{source_of};
-ghost use Rattle.atac_top.specs.Programs.{IsFirst, section, report};
-ghost use Rattle.atac_top.specs.Understanding.{Holds, Reads, ReadAs, RunAs};
+ghost use Rattle.atac_top.specs.Programs.{section, report};
+ghost use Rattle.atac_top.specs.Understanding.{Holds, ReadAs, RunAs};
 
 use crate::checking::{Checking, check, said};
 use crate::sections::section_of_run;
 use atac_base::items::Items;
-use atac_base::place::{NoMemory, Pos};
+use atac_base::place::NoMemory;
 use atac_base::probes::Deaf;
 use c_front::front::{FrontRefusal, read};
 use c_lex::TextKind;
+use c_machine::run::run;
+use c_sites::numbered::Sites;
 use c_tree::program::Program;
 use cover_core::collector::Collector;
 use cover_report::report::report;
-use first_form::program as form;
-use first_tokens::tokens::tokens;
-use first_tree::program as tree;
+use probe_unit::program::instrument;
 use std::alloc::Global;
 
-/// A program of the first form with a probe at each of its blocks, and the items of its report.
+// The digest in the program line of a program that is run at once and not written.
+const NO_DIGEST: [u8; 32] = [0; 32];
+
+/// A program that is to be covered: itself with its probes, and the items of its report.
 #[derive(Drop)]
-pub struct First {
-    program: tree::Program,
+pub struct Understood {
+    probed: Program,
     items: Items,
 }
 
-/// A program that is to be covered: itself, and its first form.
+/// What a run that is covered puts: the section of the run, and the report of what it covered.
 #[derive(Drop)]
-pub struct Understood {
-    pub program: Program,
-    pub first: First,
+pub struct Covering {
+    pub section: Vec<u8>,
+    pub report: Vec<u8>,
 }
 
 /// What a text is read as that is to be covered: refused, with what is said of it; or a program.
@@ -59,37 +62,29 @@ pub fn read_to_run(alloc: Global, text: &[u8]) -> Result<Runnable, NoMemory>
     }
 }
 
-/// Reads the text of a program that is to be covered: why it is not accepted, `29 NotYet` at 1:1 where it is a program of
-/// another form than the first, or the program.
+/// Reads the text of a program that is to be covered: why it is not accepted, or the program with its probes.
 pub fn understand(alloc: Global, text: &[u8]) -> Result<Reading, NoMemory>
     requires { length text.now ≤ 1048576 }
     ensures { IfOk result (ReadAs text.now) }
 {
-    let program = match check(alloc, text)? {
+    let (program, sites) = match check(alloc, text)? {
         Checking::Refuses(said) => return Ok(Reading::Refuses(said)),
-        Checking::Accepts(program, _) => program,
+        Checking::Accepts(program, sites) => (program, sites),
     };
-    match understand_first(alloc, text)? {
-        None => Ok(Reading::Refuses(said(alloc, 29, Pos { line: 1, col: 1 })?)),
-        Some(first) => Ok(Reading::Covers(Understood { program, first })),
-    }
+    let probed = instrument(alloc, &program, &sites, &NO_DIGEST)?;
+    let items = items_of(alloc, &sites)?;
+    Ok(Reading::Covers(Understood { probed, items }))
 }
 
-// Reads the text of a program of the first form.
-fn understand_first(alloc: Global, text: &[u8]) -> Result<Option<First>, NoMemory>
-    requires { length text.now ≤ 1048576 }
-    ensures { IfOk result (λ found. MatchOption found ((P : UnitShape) → IsFirst text.now P → ⊥) (Reads text.now)) }
+// The blocks of the report.
+fn items_of(alloc: Global, sites: &Sites) -> Result<Items, NoMemory>
+    ensures { IfOk result (λ items. items.blocks ≡ sites.now.lists.blocks.items) }
 {
-    let Some(tokens) = tokens(alloc, text)? else {
-        return Ok(None);
-    };
-    let Some(reading) = form::read(alloc, tokens.as_slice())? else {
-        return Ok(None);
-    };
-    Ok(Some(First {
-        program: tree::Program::from_typed(reading.unit),
-        items: reading.items,
-    }))
+    let mut items = Items::new(alloc);
+    for k in 0..sites.blocks() {
+        items.push_block(sites.block(k + 1))?;
+    }
+    Ok(items)
 }
 
 /// Runs the program on the input within so many turns, and makes the section of this run.
@@ -104,22 +99,26 @@ pub fn section_of(
     ensures { IfOk result (λ text. text.items ≡ section input_name.now (source_of program.now) input.now limit) }
 {
     let mut deaf = Deaf;
-    let ended = c_run::run::run(alloc, program, input, limit, &mut deaf)?;
+    let ended = run(alloc, program, input, limit, &mut deaf)?;
     let text = section_of_run(alloc, input_name, &ended)?;
     Ok(text)
 }
 
-/// Runs the program of the first form on the input within so many turns, and makes the report of its blocks.
-pub fn report_of(
+/// Runs the program with its probes on the input within so many turns, and makes the section and the report of this run.
+pub fn cover(
     alloc: Global,
-    first: &First,
+    understood: &Understood,
     limit: u64,
+    input_name: &str,
     input: &[u8],
-) -> Result<Vec<u8>, NoMemory>
-    ensures { IfOk result (λ text. (P : UnitShape) → Holds P first.now → text.items ≡ report P input.now limit) }
+) -> Result<Covering, NoMemory>
+    requires { limit ≤ 2000000 }
+    ensures section { IfOk result (λ c. (P : Source) → Holds P understood.now → c.section.items ≡ section input_name.now P input.now limit) }
+    ensures report { IfOk result (λ c. (P : Source) → Holds P understood.now → c.report.items ≡ report P input.now limit) }
 {
     let mut collector = Collector::new(alloc);
-    let _ended = c_machine::run::run(alloc, &first.program, input, limit, &mut collector)?;
-    let text = report(alloc, &first.items, collector.facts())?;
-    Ok(text)
+    let ended = run(alloc, &understood.probed, input, limit, &mut collector)?;
+    let section = section_of_run(alloc, input_name, &ended)?;
+    let report = report(alloc, &understood.items, collector.facts())?;
+    Ok(Covering { section, report })
 }

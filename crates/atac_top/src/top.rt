@@ -1,7 +1,6 @@
 ghost use Rattle.std.specs.Prelude.{◌≡◌, ◌⊎◌, ◌↔◌, ◌++◌, ℕ, List, IsTrue, map, string_bytes, Some, None, IfSome};
 ghost use Rattle.atac_base.specs.Outside.{Rose};
-ghost use Rattle.first_tree.specs.Shape.{UnitShape};
-ghost use Rattle.atac_top.specs.Programs.{IsFirst};
+ghost use Rattle.atac_top.specs.Programs.{IsAccepted, program_in};
 ghost use Rattle.atac_top.specs.Words.{reads};
 ghost use Rattle.atac_top.specs.Ends.{line_of, file_of, said_of};
 ghost use Rattle.atac_top.specs.Stops.{end_of};
@@ -73,8 +72,8 @@ fn put_four<E: Sink>(err: &mut E, a: &[u8], b: &[u8], c: &[u8], d: &[u8]) -> Res
 /// `check P` fetches P, at most 1,048,576 bytes, refuses it where it isn't accepted, and puts the line of its counts to
 /// `out`. `run [-t N] P INPUT` fetches P, which may have probes, at most 67,108,864 bytes, and refuses it where it is no
 /// program; fetches INPUT, at most 16,777,216 bytes; runs P on it within N turns, from 1 to 2,000,000, or 1,000,000; and puts
-/// the section of this run to `out`. `cover [-t N] P INPUT` refuses P as `check` does, and where it isn't of the first form,
-/// and puts the report behind the section. All other words are no command. An operand doesn't begin with `-`; an empty one
+/// the section of this run to `out`. `cover [-t N] P INPUT` refuses P as `check` does, and puts the report of what this run
+/// covers behind the section. All other words are no command. An operand doesn't begin with `-`; an empty one
 /// is a name like another.
 ///
 /// `NoMemory` may come in place of each status but `Usage`. A put to `err` that fails leaves the status as it is.
@@ -99,12 +98,12 @@ pub fn atac<S: Shelf, W: Sink, E: Sink>(
     ensures write_fault { result ≡ Status.WriteFault → Rose (W.state out.old).faults (W.state out.new).faults }
 
     // When the call is done, the sink gained the line of the program's counts; or the section of its own run, as the
-    // meaning of the language has it; and for `cover` the report of its blocks.
+    // meaning of the language has it; and for `cover` the report of the blocks that this run enters.
     ensures headline { result ≡ Status.Done → IfSome (reads (map string_bytes words.now.items)) (λ command.
         Shows command (S.state shelf.old).says (W.state out.old) (W.state out.new)) }
 
     // A text is one program at most.
-    ensures one_program { (source : List ℕ) (P Q : UnitShape) → IsFirst source P → IsFirst source Q → Q ≡ P }
+    ensures one_program { (source : List ℕ) (a b : IsAccepted source) → program_in b ≡ program_in a }
 
     // A block is covered exactly where some position of the run's events holds it.
     ensures covered { (events : List Event) (k : ℕ) → IsTrue (covers events k) ↔ IsCovered events k }

@@ -5,3 +5,4 @@ pub mod Told
 pub mod Grown
 pub mod Advanced
 pub mod Once
+pub mod Elements

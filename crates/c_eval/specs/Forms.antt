@@ -1,6 +1,8 @@
 -- The groups of forms that a step tells apart, and what its parts hand on.
-use Rattle.std.specs.Prelude.{◌≡◌, ℕ, ◌<◌, Bool, true, false, Option, Some, None, Result, Ok, Err}
+use Rattle.std.specs.Prelude.{◌≡◌, ℕ, ◌<◌, Bool, true, false, Option, Some, None, Result, Ok, Err, if◌then◌else◌}
 use Rattle.c_syntax.specs.declared.text.Text.{Text}
+use Rattle.c_syntax.specs.declared.tree.CType.{CType}
+use Rattle.c_syntax.specs.declared.tree.CType.TheVariants as ctype
 use Rattle.c_syntax.specs.declared.tree.Note.{Note}
 use Rattle.c_syntax.specs.declared.tree.Note.TheVariants as note
 use Rattle.c_syntax.specs.declared.tree.Expr.{Expr}
@@ -129,6 +131,42 @@ is_leaf n (Name x) = true
 is_leaf n (SizeOf' _ p o m a) = true
 is_leaf n (SizeOfType y) = true
 is_leaf n _ = false
+
+-- a scalar or an array, whose value needs no more than its place
+abbrev pub has_value : CType → Bool
+has_value (ctype.Int k) = true
+has_value (ctype.Pointer' _ t) = true
+has_value (ctype.Array' _ t n) = true
+has_value (ctype.Struct n) = false
+has_value ctype.Void = false
+
+abbrev pub is_valued : Note → Bool
+is_valued (note.Typed t n) = has_value t
+is_valued (note.Known t v) = false
+is_valued note.Bare = false
+
+-- a constant, or a variable that has a value
+abbrev pub is_name : Note → Bool
+is_name (note.Typed t (Some v)) = has_value t
+is_name (note.Typed t None) = true
+is_name (note.Known t v) = true
+is_name note.Bare = true
+
+abbrev pub IsNamed : Expr → Type 0
+IsNamed f = (x : Text) × (f ≡ Name x)
+
+-- constants, variables, their elements, and operators on these
+abbrev pub is_direct : Note → Expr → Bool
+is_direct n (Number x) = true
+is_direct n (Char c) = true
+is_direct n (Str x) = true
+is_direct n (Name x) = is_name n
+is_direct n (SizeOf' _ p o m a) = true
+is_direct n (SizeOfType y) = true
+is_direct n (Paren' _ p o m a) = is_direct m a
+is_direct n (Binary' u _ p o m a _ p' o' m' b) = if is_direct m a then is_direct m' b else false
+is_direct n (Index' _ p o m a _ p' o' m' b) = if is_valued n then if is_direct m a then is_direct m' b else false else false
+is_direct n _ = false
 
 abbrev pub is_prefix : Expr → Bool
 is_prefix (Unary' front.Deref _ p o m a) = false

@@ -1,6 +1,6 @@
 //! Operands without operands, whose turn and value are taken at once.
 
-ghost use Rattle.std.specs.Prelude.{◌≡◌, ◌≤◌, ◌<◌, List, Option, Some, true, IfSome};
+ghost use Rattle.std.specs.Prelude.{◌≡◌, ◌≤◌, ◌<◌, List, Option, Some, true, IfSome, OnOk};
 ghost use Rattle.atac_base.specs.declared.probes.Event.{Event};
 ghost use Rattle.atac_base.specs.declared.place.Pos.{Pos};
 ghost use Rattle.c_syntax.specs.declared.text.Text.{Text};
@@ -49,10 +49,10 @@ pub fn at_once(world: &mut World, node: &Node) -> Option<Reply>
     }
 }
 
-// The turn and the value of a leaf.
+/// The turn and the value of a leaf.
 #[tactic(auto, using(crate::proofs::Once::fewer))]
 #[inline(always)]
-fn constant(world: &mut World, node: &Node) -> Reply
+pub fn constant(world: &mut World, node: &Node) -> Reply
     requires { is_leaf node.now.note node.now.form ≡ true }
     ensures is { (t : TablesShape) (k : Knot) (h : List Event) → value t k (node_shape node.now) (state_of world.old h) ≡ then_do (replied result (state_of world.new h)) gives }
     ensures kept { Kept world.old world.new }
@@ -65,9 +65,9 @@ fn constant(world: &mut World, node: &Node) -> Reply
     leaf(node)
 }
 
-// The turn and the value of a variable of scalar type.
+/// The turn and the value of a variable of scalar type.
 #[inline(always)]
-fn scalar(world: &mut World, number: u32) -> Reply
+pub fn scalar(world: &mut World, number: u32) -> Reply
     ensures is { (h : List Event) → scalar_value number (state_of world.old h) ≡ replied result (state_of world.new h) }
     ensures kept { Kept world.old world.new }
     ensures turns { world.new.turns ≤ world.old.turns }
@@ -111,6 +111,7 @@ fn place(tables: &Tables, world: &mut World, kind: &CType, number: u32) -> Resul
     ensures is { (h : List Event) → turn (state_of world.old h) (variable_place (tables_shape tables.now) (type_of kind.now) number) ≡ found result (state_of world.new h) }
     ensures kept { Kept world.old world.new }
     ensures turns { world.new.turns ≤ world.old.turns }
+    ensures fewer { OnOk result (world.new.turns < world.old.turns) }
 {
     if !world.turn() {
         return Err(Stop::Turns);
@@ -118,34 +119,9 @@ fn place(tables: &Tables, world: &mut World, kind: &CType, number: u32) -> Resul
     variable(tables, world, kind, number)
 }
 
-/// The pointer to the first element of a variable that is an array (C89, 3.2.2.1), whose turn is taken; `None` for any
-/// other node, and nothing is done.
+/// The turn and the value of a variable that is an array.
 #[inline(always)]
-pub fn array_at_once(tables: &Tables, world: &mut World, node: &Node) -> Option<Reply>
-    ensures is { (k : Knot) (h : List Event) → IsAtOnce result (tables_shape tables.now) k (node_shape node.now) (state_of world.old h) (state_of world.new h) }
-    ensures kept { Kept world.old world.new }
-    ensures turns { world.new.turns ≤ world.old.turns }
-{
-    match &node.form {
-        Expr::Name(_) => match &node.note {
-            Note::Typed(kind, named) => match named {
-                None => None,
-                Some(number) => match kind {
-                    CType::Array(of, length) => {
-                        Some(array_value(tables, world, kind, of, *length, *number))
-                    }
-                    _ => None,
-                },
-            },
-            _ => None,
-        },
-        _ => None,
-    }
-}
-
-// The turn and the value of a variable that is an array.
-#[inline(always)]
-fn array_value(
+pub fn array_value(
     tables: &Tables,
     world: &mut World,
     kind: &CType,
@@ -157,6 +133,7 @@ fn array_value(
     ensures is { (k : Knot) (p o : Pos) (x : Text) (h : List Event) → value (tables_shape tables.now) k (node p o (typed (type_of kind.now) (Some number)) (leaf (name x))) (state_of world.old h) ≡ then_do (replied result (state_of world.new h)) gives }
     ensures kept { Kept world.old world.new }
     ensures turns { world.new.turns ≤ world.old.turns }
+    ensures fewer { IsFewer result world.new.turns world.old.turns }
 {
     match place(tables, world, kind, number) {
         Err(why) => Reply::Stopped(why),

@@ -196,9 +196,19 @@ pub fn truth_at(value: Value) -> Value
 pub fn element_at(a: &Node, b: &Node, left: Value, right: Value) -> Result<Pointer, Fault>
     ensures { (s : State) → element_at (node_shape a.now) (node_shape b.now) left right s ≡ settled result s }
 {
-    match operate(BinaryOp::Add, a, b, left, right) {
+    match element_pointer(a, b, left, right) {
         Ok(value) => operators::target(value),
         Err(fault) => Err(fault),
+    }
+}
+
+#[inline(always)]
+fn element_pointer(a: &Node, b: &Node, left: Value, right: Value) -> Result<Value, Fault>
+    ensures { result ≡ element_pointer (operand (node_shape a.now)) (operand (node_shape b.now)) left right }
+{
+    match (kind(a), kind(b)) {
+        (Some(j), Some(k)) => operators::element(j, k, left, right),
+        _ => Err(Fault::NoResult),
     }
 }
 

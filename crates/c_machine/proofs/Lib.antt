@@ -1,7 +1,3 @@
-pub mod Knots
-pub mod Steps
-pub mod Moves
+pub mod Rows
+pub mod Grown
 pub mod Runs
-pub mod Fronts
-pub mod Decimals
-pub mod Simulation

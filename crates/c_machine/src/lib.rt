@@ -1,9 +1,5 @@
-//! Runs of programs: the definition of their meaning, and the machine that steps them.
+//! A whole run of a program.
 #![tactic(auto)]
 
-pub mod end;
-pub mod machine;
-pub mod numbers;
+pub mod first;
 pub mod run;
-pub mod work;
-pub mod world;

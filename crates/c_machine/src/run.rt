@@ -1,33 +1,39 @@
-ghost use Rattle.std.specs.Prelude.{◌≡◌, ◌≤◌, ◌++◌, ◌-◌, List, [], map, IfOk, OnErr, None, ℕ};
+ghost use Rattle.std.specs.Prelude.{◌≡◌, ◌≤◌, ◌++◌, List, [], IfOk, OnOk, OnErr};
 ghost use Rattle.atac_base.specs.declared.probes.Event.{Event};
-ghost use Rattle.first_tree.specs.View.{declarator_shape, compound_shape, external_shape, program_shape};
-ghost use Rattle.c_machine.specs.Results.{Gives, turn};
-ghost use Rattle.c_machine.specs.Meaning.{loops, braces_flow};
-ghost use Rattle.c_machine.specs.Front.{Grown, IsFront};
-ghost use Rattle.c_machine.specs.Rest.{state_of};
-ghost use Rattle.c_machine.specs.Todo.{left, ended, end_of};
-ghost use Rattle.c_machine.specs.Run.{body_flow, main_flow, main_name, name_text, outcome, outcome_at, run_of};
+ghost use Rattle.c_tree.specs.Tables.{tables_shape};
+ghost use Rattle.c_meaning.specs.Lasting.{IsFront};
+ghost use Rattle.c_meaning.specs.Runs.{run, all_made, main_called, silent};
+ghost use Rattle.c_routines.specs.Routines.{source_of};
+ghost use Rattle.c_world.specs.World.{state_of, answered, Same};
+ghost use Rattle.c_world.specs.Names.{scope_counts};
+ghost use Rattle.c_eval.specs.Advance.{Grown};
+ghost use Rattle.c_flow.specs.Todo.{left_in, knot_of, Tied};
+ghost use Rattle.c_machine.specs.Run.{ended_as, outcome_of, end_as};
 
-use crate::end::{End, Fault, Flow, RunEnd, Stop};
-use crate::machine::{Active, Machine, Step, Use, tell};
-use crate::work::Work;
-use crate::world::World;
-use atac_base::place::NoMemory;
+use crate::first::main_number;
+use atac_base::place::{IntKind, NoMemory};
 use atac_base::probes::Probes;
+use c_arith::convert;
+use c_eval::advance::stopped_end;
+use c_flow::machine::{Begun, Machine};
+use c_flow::parts::Step;
+use c_meaning::end::{End, RunEnd, Stop};
+use c_plan::plan::Plan;
+use c_store::value::{Fault, Value};
 use c_syntax::text::Text;
-use first_tree::program::Program;
-use first_tree::tree::{Compound, Declarator, External, ProbeMark};
+use c_tree::program::Program;
+use c_world::world::World;
 use std::alloc::Global;
 
-/// How a function's body ends.
-#[derive(Clone, Copy)]
+/// How a run has ended: `main` returned, with a value or without; or it was stopped.
+#[derive(Clone, Copy, Drop)]
 pub enum Ended {
-    Left(Flow),
+    Returned(Option<Value>),
     Stopped(Stop),
 }
 
-/// A run of a program's first function over an input, with at most so many turns. After an `Err` the probes have
-/// seen a front of the run's events.
+/// A run of a program over an input, with at most so many turns (C89, 2.1.2.2.1). The probes are told what it logs, in
+/// order; after an `Err` they were told a front of that.
 pub fn run<P: Probes>(
     alloc: Global,
     program: &Program,
@@ -35,131 +41,147 @@ pub fn run<P: Probes>(
     limit: u64,
     probes: &mut P,
 ) -> Result<RunEnd, NoMemory>
-    ensures run { IfOk result (λ r. (h : List Event) → P.stands_for probes.old h → (l : List Event) × P.stands_for probes.new (h ++ l) × (run_of None (program_shape program.now) input.now limit ≡ record { output = r.output; turns = r.turns; end = r.end; events = []; log = l })) }
-    ensures front { OnErr result ((h : List Event) → P.stands_for probes.old h → (l : List Event) × P.stands_for probes.new (h ++ l) × IsFront l (run_of None (program_shape program.now) input.now limit).log) }
+    requires { limit ≤ 1000000000 }
+    ensures run { IfOk result (λ r. (h : List Event) → P.stands_for probes.old h → (l : List Event) × P.stands_for probes.new (h ++ l) × (run (source_of program.now) input.now limit ≡ outcome_of r l)) }
+    ensures front { OnErr result ((h : List Event) → P.stands_for probes.old h → (l : List Event) × P.stands_for probes.new (h ++ l) × IsFront l (run (source_of program.now) input.now limit).log) }
 {
-    let mut world = World {
-        cells: Vec::new(alloc),
-        input,
-        output: Text::new(alloc),
-        turns: limit,
-    };
-    let end = run_first(alloc, &program.unit().externals, &mut world, probes)?;
+    let plan = Plan::of(alloc, program)?;
+    let mut world = World::new(alloc, program, input, limit)?;
+    let ended = run_main(alloc, &plan, &mut world, probes)?;
+    let end = end_of(alloc, &world, ended)?;
+    let output = text_of(alloc, world.output())?;
     Ok(RunEnd {
-        output: world.output,
-        turns: limit.saturating_sub(world.turns),
+        output,
+        turns: world.turns(),
         end,
     })
 }
 
-// Runs the first of these functions.
-fn run_first<P: Probes>(
-    alloc: Global,
-    externals: &[External],
-    world: &mut World,
-    probes: &mut P,
-) -> Result<End, NoMemory>
-    ensures done { IfOk result (λ e. (h l : List Event) → P.stands_for probes.old (h ++ l) → (l' : List Event) × P.stands_for probes.new (h ++ l') × ((limit : ℕ) → outcome (main_name (map external_shape externals.now)) limit (main_flow loops (map external_shape externals.now) None (state_of world.old l)) ≡ outcome_at limit e (state_of world.new l'))) }
-    ensures front { OnErr result ((h l : List Event) → P.stands_for probes.old (h ++ l) → (l' : List Event) × P.stands_for probes.new (h ++ l') × Grown l' (main_flow loops (map external_shape externals.now) None (state_of world.old l))) }
+// The bytes as a text; there is no memory for 4,294,967,296 of them or more.
+fn text_of(alloc: Global, bytes: &[u8]) -> Result<Text, NoMemory>
+    ensures { IfOk result (λ t. t ≡ bytes.now) }
 {
-    match externals.split_first() {
-        None => Ok(End::Fault(Fault::NoResult, Text::new(alloc))),
-        Some((External::Function(declarator, marks, body), _)) => {
-            let ended = run_body(alloc, marks, body, world, probes)?;
-            let end = end_in(alloc, declarator, ended)?;
+    if bytes.len() > u32::MAX as usize {
+        return Err(NoMemory);
+    }
+    Text::from_bytes(alloc, bytes)
+}
+
+// The end of a run.
+fn end_of(alloc: Global, world: &World<'_>, ended: Ended) -> Result<End, NoMemory>
+    ensures { IfOk result (λ e. (h : List Event) → e ≡ end_as (tables_shape world.now.program.now.tables) ended (state_of world.now h)) }
+{
+    match ended {
+        Ended::Returned(Some(Value::Int(status))) => {
+            Ok(End::Returned(convert(status, IntKind::Int) as i32))
+        }
+        Ended::Returned(_) => Ok(End::Returned(0)),
+        Ended::Stopped(why) => {
+            let end = stopped_end(alloc, world, why)?;
             Ok(end)
         }
     }
 }
 
-// The end of a run, with the name of its function.
-fn end_in(alloc: Global, declarator: &Declarator, ended: Ended) -> Result<End, NoMemory>
-    ensures { IfOk result (λ e. e ≡ end_of (name_text declarator.now.name) ended) }
-{
-    match ended {
-        Ended::Left(Flow::Back(Some(value))) => Ok(End::Returned(value)),
-        Ended::Left(_) => Ok(End::Returned(0)),
-        Ended::Stopped(Stop::Turns) => Ok(End::Turns),
-        Ended::Stopped(Stop::Fault(fault)) => {
-            let name = match &declarator.name {
-                None => Text::new(alloc),
-                Some(name) => copy(alloc, &name.text)?,
-            };
-            Ok(End::Fault(fault, name))
-        }
-    }
-}
-
-// A copy of a text.
-fn copy(alloc: Global, text: &Text) -> Result<Text, NoMemory>
-    ensures { IfOk result (λ t. t ≡ text.now) }
-{
-    let _len = text.len();
-    Text::from_bytes(alloc, text.bytes())
-}
-
-// Runs a function's body.
-fn run_body<P: Probes>(
+// The objects of file scope are made, and `main` is called.
+fn run_main<'p, P: Probes>(
     alloc: Global,
-    marks: &[ProbeMark],
-    body: &Compound,
-    world: &mut World,
+    plan: &'p Plan<'p>,
+    world: &mut World<'p>,
     probes: &mut P,
 ) -> Result<Ended, NoMemory>
-    ensures done { IfOk result (λ e. (h l : List Event) → P.stands_for probes.old (h ++ l) → (l' : List Event) × P.stands_for probes.new (h ++ l') × (ended e (state_of world.new l') ≡ body_flow loops marks.now (compound_shape body.now) None (state_of world.old l))) }
-    ensures front { OnErr result ((h l : List Event) → P.stands_for probes.old (h ++ l) → (l' : List Event) × P.stands_for probes.new (h ++ l') × Grown l' (body_flow loops marks.now (compound_shape body.now) None (state_of world.old l))) }
+    requires program { world.old.program.now ≡ plan.now.program.now }
+    requires none { scope_counts world.old.names.calls ≡ [] }
+    ensures done { IfOk result (λ e. (h l : List Event) → P.stands_for probes.old (h ++ l) → (l' : List Event) × P.stands_for probes.new (h ++ l') × (main_called (source_of plan.now.program.now) silent (knot_of plan.now.program.now) (state_of world.old l) ≡ ended_as e (state_of world.new l'))) }
+    ensures front { OnErr result ((h l : List Event) → P.stands_for probes.old (h ++ l) → (l' : List Event) × P.stands_for probes.new (h ++ l') × Grown l' (main_called (source_of plan.now.program.now) silent (knot_of plan.now.program.now) (state_of world.old l))) }
+    ensures told { OnOk result (world.new.pending.items ≡ []) }
+    ensures same { OnOk result (Same world.old world.new) }
 {
-    let goes_on = tell(probes, marks)?;
-    if !goes_on {
-        return Ok(Ended::Stopped(Stop::Fault(Fault::NoResult)));
+    if let Some(why) = make_all(world, probes)? {
+        return Ok(Ended::Stopped(why));
     }
-    let ended = enter_body(alloc, body, world, probes)?;
+    let Some(function) = main_number(world.tables()) else {
+        return Ok(Ended::Stopped(Stop::Fault(Fault::NoResult)));
+    };
+    let ended = call(alloc, plan, world, function, probes)?;
     Ok(ended)
 }
 
-// The turn of a function's body, and what it does.
-fn enter_body<P: Probes>(
+// The string literals and the objects of file scope (C89, 3.5.7).
+fn make_all<P: Probes>(world: &mut World<'_>, probes: &mut P) -> Result<Option<Stop>, NoMemory>
+    ensures done { IfOk result (λ r. (h l : List Event) → P.stands_for probes.old (h ++ l) → (l' : List Event) × P.stands_for probes.new (h ++ l') × (all_made (source_of world.old.program.now) silent (state_of world.old l) ≡ answered r (state_of world.new l'))) }
+    ensures front { OnErr result ((h l : List Event) → P.stands_for probes.old (h ++ l) → (l' : List Event) × P.stands_for probes.new (h ++ l') × Grown l' (all_made (source_of world.old.program.now) silent (state_of world.old l))) }
+    ensures told { OnOk result (world.new.pending.items ≡ []) }
+    ensures same { OnOk result (Same world.old world.new) }
+    ensures calls { OnOk result (world.new.names.calls ≡ world.old.names.calls) }
+{
+    let made = world.begin()?;
+    tell(world, probes)?;
+    Ok(made)
+}
+
+// A call of the function of that number, up to its return.
+fn call<'p, P: Probes>(
     alloc: Global,
-    body: &Compound,
-    world: &mut World,
+    plan: &'p Plan<'p>,
+    world: &mut World<'p>,
+    function: u32,
     probes: &mut P,
 ) -> Result<Ended, NoMemory>
-    ensures done { IfOk result (λ e. (h l : List Event) → P.stands_for probes.old (h ++ l) → (l' : List Event) × P.stands_for probes.new (h ++ l') × (ended e (state_of world.new l') ≡ turn (state_of world.old l) (braces_flow loops (compound_shape body.now) None))) }
-    ensures front { OnErr result ((h l : List Event) → P.stands_for probes.old (h ++ l) → (l' : List Event) × P.stands_for probes.new (h ++ l') × Grown l' (turn (state_of world.old l) (braces_flow loops (compound_shape body.now) None))) }
+    requires program { world.old.program.now ≡ plan.now.program.now }
+    requires none { scope_counts world.old.names.calls ≡ [] }
+    ensures done { IfOk result (λ e. (h l : List Event) → P.stands_for probes.old (h ++ l) → (l' : List Event) × P.stands_for probes.new (h ++ l') × ((knot_of plan.now.program.now).call function [] (state_of world.old l) ≡ ended_as e (state_of world.new l'))) }
+    ensures front { OnErr result ((h l : List Event) → P.stands_for probes.old (h ++ l) → (l' : List Event) × P.stands_for probes.new (h ++ l') × Grown l' ((knot_of plan.now.program.now).call function [] (state_of world.old l))) }
+    ensures told { OnOk result (world.new.pending.items ≡ []) }
+    ensures same { OnOk result (Same world.old world.new) }
 {
-    if !world.turn() {
-        return Ok(Ended::Stopped(Stop::Turns));
-    }
-    let mut machine = Machine {
-        active: Active::Busy,
-        work: Work::idle(alloc),
-        used: Use::Discard,
-        waiting: Vec::new(alloc),
-    };
-    match machine.block(world, body)? {
-        Step::More => {
-            let ended = finish(&mut machine, world, probes)?;
+    let begun = Machine::begin_run(alloc, plan, world, function)?;
+    tell(world, probes)?;
+    match begun {
+        Begun::Stopped(why) => Ok(Ended::Stopped(why)),
+        Begun::Running(machine) => {
+            let mut machine = machine;
+            let ended = follow(&mut machine, plan, world, probes)?;
             Ok(ended)
         }
-        Step::Done(flow) => Ok(Ended::Left(flow)),
-        Step::Stopped(why) => Ok(Ended::Stopped(why)),
     }
 }
 
-// Steps to the end.
-fn finish<P: Probes>(
-    machine: &mut Machine,
-    world: &mut World,
+// Steps to the end, and tells the events of each step.
+fn follow<'p, P: Probes>(
+    machine: &mut Machine<'p>,
+    plan: &'p Plan<'p>,
+    world: &mut World<'p>,
     probes: &mut P,
 ) -> Result<Ended, NoMemory>
-    ensures done { IfOk result (λ e. (h l : List Event) → P.stands_for probes.old (h ++ l) → (l' : List Event) × P.stands_for probes.new (h ++ l') × (ended e (state_of world.new l') ≡ left machine.old (state_of world.old l))) }
-    ensures front { OnErr result ((h l : List Event) → P.stands_for probes.old (h ++ l) → (l' : List Event) × P.stands_for probes.new (h ++ l') × Grown l' (left machine.old (state_of world.old l))) }
+    requires program { world.old.program.now ≡ plan.now.program.now }
+    requires tied { Tied machine.old world.old }
+    ensures done { IfOk result (λ e. (h l : List Event) → P.stands_for probes.old (h ++ l) → (l' : List Event) × P.stands_for probes.new (h ++ l') × (left_in (tables_shape plan.now.program.now.tables) (knot_of plan.now.program.now) machine.old (state_of world.old l) ≡ ended_as e (state_of world.new l'))) }
+    ensures front { OnErr result ((h l : List Event) → P.stands_for probes.old (h ++ l) → (l' : List Event) × P.stands_for probes.new (h ++ l') × Grown l' (left_in (tables_shape plan.now.program.now.tables) (knot_of plan.now.program.now) machine.old (state_of world.old l))) }
+    ensures told { OnOk result (world.new.pending.items ≡ []) }
+    ensures same { OnOk result (Same world.old world.new) }
 {
     loop {
-        match machine.step(world, probes)? {
+        let step = machine.step(plan, world)?;
+        tell(world, probes)?;
+        match step {
             Step::More => {}
-            Step::Done(flow) => return Ok(Ended::Left(flow)),
+            Step::Done(value) => return Ok(Ended::Returned(value)),
             Step::Stopped(why) => return Ok(Ended::Stopped(why)),
         }
     }
+}
+
+// Tells what is pending.
+#[inline(always)]
+fn tell<P: Probes>(world: &mut World<'_>, probes: &mut P) -> Result<(), NoMemory>
+    ensures told { OnOk result ((h l : List Event) → P.stands_for probes.old (h ++ l) → (l' : List Event) × P.stands_for probes.new (h ++ l') × (state_of world.new l' ≡ state_of world.old l)) }
+    ensures front { OnErr result ((h l : List Event) → P.stands_for probes.old (h ++ l) → (l' : List Event) × P.stands_for probes.new (h ++ l') × IsFront l' (state_of world.old l).log) }
+    ensures empty { OnOk result (world.new.pending.items ≡ []) }
+    ensures same { OnOk result (Same world.old world.new) }
+    ensures names { OnOk result (world.new.names ≡ world.old.names) }
+    ensures turns { OnOk result (world.new.turns ≡ world.old.turns) }
+{
+    world.tell(probes)?;
+    Ok(())
 }

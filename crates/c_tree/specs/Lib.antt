@@ -13,6 +13,7 @@ pub mod Stating
 pub mod Units
 pub mod Programs
 pub mod Unnoted
+pub mod Erased
 pub use Rattle.c_syntax.specs.Shape
 pub use Rattle.c_syntax.specs.View
 pub use Rattle.c_syntax.specs.Forms

@@ -7,6 +7,7 @@ use Rattle.c_syntax.specs.Grammar.{tokens_of}
 use Rattle.c_values.specs.Probes.{digest_of}
 use Rattle.c_tree.specs.Tables.{TablesShape}
 use Rattle.c_tree.specs.Units.{typed_unit, complaints}
+use Rattle.c_tree.specs.Erased.{erased_unit}
 
 -- the grammar allows the unit, which has at most 350,000 tokens
 pub record IsSound (u : UnitShape) : Type 0 where
@@ -22,6 +23,11 @@ pub record IsProgram (u : UnitShape) (t : TablesShape) : Type 0 where
   pub noted : (typed_unit u).unit ≡ u
   pub tables : (typed_unit u).state.tables ≡ t
   pub clean : complaints u ≡ []
+
+-- the unit is a program; or it is one but for its probes and its program line
+pub data HoldsProgram (u : UnitShape) (t : TablesShape) : Type 0 where
+  itself : IsProgram u t → HoldsProgram u t
+  with_probes : IsProgram (erased_unit u) t → HoldsProgram u t
 
 -- the digest in the program line, if there is a line
 abbrev pub digest_in : Option ProgramLine → Option (List ℕ)

@@ -91,7 +91,7 @@ call_grows : (p : Pos) (token : ℕ) (clean : Bool) (n : ℕ) (f : Option Functi
 call_grows p token clean n None gs s = as_it_was s
 call_grows p token clean n (Some f) gs s = pick_grows (clean && not (nat_eq (length f.params) (length gs))) s _ _ (complain_grows 34 token p s) (fit_grows f.params gs s)
 
-typed_call_grows : (p : Pos) (token : ℕ) (clean : Bool) (f : Option ℕ) (gs : List Given) (s : State) → Grows s (typed_call p token clean f gs s).state
+pub typed_call_grows : (p : Pos) (token : ℕ) (clean : Bool) (f : Option ℕ) (gs : List Given) (s : State) → Grows s (typed_call p token clean f gs s).state
 typed_call_grows p token clean None gs s = as_it_was s
 typed_call_grows p token clean (Some n) gs s = call_grows p token clean n (row s.tables.functions n) gs s
 
@@ -99,7 +99,7 @@ literal_grows : (b : Bool) (x : Text) (s : State) → Grows s (if b then s else 
 literal_grows true x s = as_it_was s
 literal_grows false x s = as_it_was s
 
-infix_grows : (token : ℕ) (o : Pos) (head : ℕ) (p : Pos) (u : Infix) (a b : Sort) (s : State) → Grows s (typed_infix token o head p u a b s).state
+pub infix_grows : (token : ℕ) (o : Pos) (head : ℕ) (p : Pos) (u : Infix) (a b : Sort) (s : State) → Grows s (typed_infix token o head p u a b s).state
 infix_grows token o head p (plain u) a b s = rule_grows _ token o s
 infix_grows token o head p and a b s = rule_grows _ token o s
 infix_grows token o head p or a b s = rule_grows _ token o s
@@ -130,24 +130,24 @@ listed_grows p x None s = as_it_was s
 listed_grows p x (Some (tag.Structure n)) s = pick_opened (is_set (row s.begun n)) s _ (record { number = Some n; state = s }) (complain_grows 31 s.at p s) (as_it_was s)
 listed_grows p x (Some tag.Enumeration) s = complain_grows 31 s.at p s
 
-opened_grows : (alone list : Bool) (x : Option Named) (s : State) → Grows s (opened alone list x s).state
+pub opened_grows : (alone list : Bool) (x : Option Named) (s : State) → Grows s (opened alone list x s).state
 opened_grows alone true None s = as_it_was s
 opened_grows alone true (Some x) s = listed_grows x.pos x.text (find_here x.text s.tags) s
 opened_grows alone false None s = as_it_was s
 opened_grows alone false (Some x) s = known_grows x.pos x.text (if alone then find_here x.text s.tags else find x.text s.tags) s
 
-begun_grows : (n : Option ℕ) (s : State) → Grows s (begun_at n s)
+pub begun_grows : (n : Option ℕ) (s : State) → Grows s (begun_at n s)
 begun_grows None s = as_it_was s
 begun_grows (Some n) s = as_it_was s
 
-closed_grows : (n : Option ℕ) (fields : List FieldShape) (s : State) → Grows s (closed n fields s)
+pub closed_grows : (n : Option ℕ) (fields : List FieldShape) (s : State) → Grows s (closed n fields s)
 closed_grows None fields s = as_it_was s
 closed_grows (Some n) fields s = as_it_was s
 
-field_grows : (token : ℕ) (p : Pos) (free : Bool) (k : Option TypeOf) (s : State) → Grows s (field_state token p free k s)
+pub field_grows : (token : ℕ) (p : Pos) (free : Bool) (k : Option TypeOf) (s : State) → Grows s (field_state token p free k s)
 field_grows token p free k s = demand_grows free 31 token p s ▸ rule_grows (of_kind k (whole s.rooms)) token p (demand free 31 token p s)
 
-declared_grows : (token : ℕ) (p : Pos) (x : Text) (e : Entity) (o : Option Entity) (s : State) → Grows s (declared_at token p x e o s)
+pub declared_grows : (token : ℕ) (p : Pos) (x : Text) (e : Entity) (o : Option Entity) (s : State) → Grows s (declared_at token p x e o s)
 declared_grows token p x e None s = as_it_was s
 declared_grows token p x e (Some other) s = complain_grows 31 token p s
 
@@ -160,7 +160,7 @@ known_enum_grows p (Some tag.Enumeration) s = as_it_was s
 known_enum_grows p (Some (tag.Structure n)) s = complain_grows 31 s.at p s
 known_enum_grows p None s = complain_grows 30 s.at p s
 
-enumeration_grows : (list : Bool) (x : Option Named) (s : State) → Grows s (enumeration list x s)
+pub enumeration_grows : (list : Bool) (x : Option Named) (s : State) → Grows s (enumeration list x s)
 enumeration_grows true None s = as_it_was s
 enumeration_grows false None s = as_it_was s
 enumeration_grows true (Some x) s = listed_enum_grows x.pos x.text (find_here x.text s.tags) s
@@ -172,7 +172,7 @@ mutual
   pub node_grows : (a : NodeShape) (s : State) → Grows s (type_node a s).state
   node_grows (node p o n f) s = form_grows p o f s
 
-  form_grows : (p o : Pos) (f : ExprShape) (s : State) → Grows s (type_form p o f s).state
+  pub form_grows : (p o : Pos) (f : ExprShape) (s : State) → Grows s (type_form p o f s).state
   form_grows p o (leaf (number t)) s = demand_grows _ 33 s.at p s
   form_grows p o (leaf (char c)) s = as_it_was s
   form_grows p o (leaf (str t)) s = literal_grows s.quiet t s ▸ rule_grows _ s.at p (with_literal t s)
@@ -226,13 +226,13 @@ mutual
       let t = type_cases [] cs v in
       claim_grows test x s.at p s ▸ cases_grow [] cs v ▸ node_grows a (step t.state) ▸ rule_grows _ s.at p (type_node a (step t.state)).state
 
-  arguments_grows : (gs : List Given) (es : NodeShapes) (s : State) → Grows s (type_arguments gs es s).state
+  pub arguments_grows : (gs : List Given) (es : NodeShapes) (s : State) → Grows s (type_arguments gs es s).state
   arguments_grows gs no_nodes s = as_it_was s
   arguments_grows gs (more_nodes a rest) s =
       let t = type_node a (step s) in
       node_grows a (step s) ▸ arguments_grows (gs ++ given_at (step s).at (pos_in a) t.sort ∷ []) rest t.state
 
-  cases_grow : (vs : List (Option ℤ)) (es : NodeShapes) (s : State) → Grows s (type_cases vs es s).state
+  pub cases_grow : (vs : List (Option ℤ)) (es : NodeShapes) (s : State) → Grows s (type_cases vs es s).state
   cases_grow vs no_nodes s = as_it_was s
   cases_grow vs (more_nodes a rest) s =
       let t = type_node a (step s) in
@@ -269,7 +269,7 @@ mutual
       let r = type_lines ds [] (within b) in
       opened_grows alone true t s ▸ begun_grows o.number o.state ▸ lines_grow ds [] (within b) ▸ closed_grows o.number r.fields r.state
 
-  lines_grow : (ds : DeclShapes) (fields : List FieldShape) (s : State) → Grows s (type_lines ds fields s).state
+  pub lines_grow : (ds : DeclShapes) (fields : List FieldShape) (s : State) → Grows s (type_lines ds fields s).state
   lines_grow no_decls fields s = as_it_was s
   lines_grow (more_decls (decl p specs names) rest) fields s =
       let t = type_specs false specs unspelled s in
@@ -278,7 +278,7 @@ mutual
       let n = type_fields p (kind_at r) names fields v in
       specs_grow false specs unspelled s ▸ rule_grows r s.at p t.state ▸ fields_grow p (kind_at r) names fields v ▸ lines_grow rest n.fields n.state
 
-  fields_grow : (p : Pos) (k : Option TypeOf) (names : DeclaratorShapes) (fields : List FieldShape) (s : State) → Grows s (type_fields p k names fields s).state
+  pub fields_grow : (p : Pos) (k : Option TypeOf) (names : DeclaratorShapes) (fields : List FieldShape) (s : State) → Grows s (type_fields p k names fields s).state
   fields_grow p k no_declarators fields s = as_it_was s
   fields_grow p k (more_declarators (declarator stars x (arrays ls) i) rest) fields s =
       let b = steps (star_tokens stars) s in
@@ -295,7 +295,7 @@ mutual
   enum_grows t no_rows s = enumeration_grows false t s
   enum_grows t (rows es) s = enumeration_grows true t s ▸ rows_grow (Some (pos 0)) es (step (steps (tag_tokens t) (enumeration true t s)))
 
-  rows_grow : (next : Option ℤ) (es : EnumerShapes) (s : State) → Grows s (type_rows next es s).state
+  pub rows_grow : (next : Option ℤ) (es : EnumerShapes) (s : State) → Grows s (type_rows next es s).state
   rows_grow next no_enumers s = as_it_was s
   rows_grow next (more_enumers x v rest) s =
       let r = type_value s.at x.pos next v (step s) in

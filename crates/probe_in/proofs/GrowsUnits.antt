@@ -38,14 +38,14 @@ mutual
       let v = rule (of_kind k list_rule) s.at p s in
       rule_grows (of_kind k list_rule) s.at p s ▸ inits_grow (slots k s) items (step v)
 
-  inits_grow : (l : Slots) (is : InitShapes) (s : State) → Grows s (type_inits l is s).state
+  pub inits_grow : (l : Slots) (is : InitShapes) (s : State) → Grows s (type_inits l is s).state
   inits_grow l no_inits s = as_it_was s
   inits_grow l (more_inits i rest) s =
       let v = rule (slot_rule l) s.at (init_pos i) s in
       let t = type_init true (slot l) i v in
       rule_grows (slot_rule l) s.at (init_pos i) s ▸ init_grows true (slot l) i v ▸ inits_grow (further l) rest (step t.state)
 
-maybe_init_grows : (c : Bool) (k : Option TypeOf) (i : MaybeInit) (s : State) → Grows s (type_maybe_init c k i s).state
+pub maybe_init_grows : (c : Bool) (k : Option TypeOf) (i : MaybeInit) (s : State) → Grows s (type_maybe_init c k i s).state
 maybe_init_grows c k no_init s = as_it_was s
 maybe_init_grows c k (one_init i) s = init_grows c k i (step s)
 
@@ -55,7 +55,7 @@ mark_grows : (fit : Bool) (m : Option ProbeMark) (s : State) → Grows s (claim_
 mark_grows fit None s = as_it_was s
 mark_grows fit (Some m) s = claim_grows def m.number s.at m.pos s ▸ demand_grows fit 37 s.at m.pos (claim def m.number s.at m.pos s)
 
-name_grows : (fit : Bool) (x : Option Named) (s : State) → Grows s (claim_name fit x s)
+pub name_grows : (fit : Bool) (x : Option Named) (s : State) → Grows s (claim_name fit x s)
 name_grows fit None s = as_it_was s
 name_grows fit (Some x) s = mark_grows fit x.probe s
 
@@ -63,7 +63,7 @@ with_variable_grows : (x : Text) (k : Option TypeOf) (s : State) → Grows s (wi
 with_variable_grows x None s = as_it_was s
 with_variable_grows x (Some t) s = as_it_was s
 
-variable_at_grows : (token : ℕ) (p : Pos) (x : Text) (k : Option TypeOf) (e : Option Entity) (s : State) → Grows s (variable_at token p x k e s)
+pub variable_at_grows : (token : ℕ) (p : Pos) (x : Text) (k : Option TypeOf) (e : Option Entity) (s : State) → Grows s (variable_at token p x k e s)
 variable_at_grows token p x k None s = with_variable_grows x k s
 variable_at_grows token p x k (Some e) s = complain_grows 31 token p s
 
@@ -88,11 +88,11 @@ parameter_at_grows : (token : ℕ) (p : Pos) (x : Text) (k : Option TypeOf) (e :
 parameter_at_grows token p x k None s = with_parameter_grows x k s
 parameter_at_grows token p x k (Some e) s = complain_grows 31 token p s
 
-parameter_grows : (token : ℕ) (x : Option Named) (k : Option TypeOf) (s : State) → Grows s (declare_parameter token x k s)
+pub parameter_grows : (token : ℕ) (x : Option Named) (k : Option TypeOf) (s : State) → Grows s (declare_parameter token x k s)
 parameter_grows token None k s = as_it_was s
 parameter_grows token (Some x) k s = parameter_at_grows token x.pos x.text k (find_here x.text s.names) s
 
-name_demand_grows : (defining : Bool) (x : Option Named) (token : ℕ) (p : Pos) (s : State) → Grows s (name_demand defining x token p s)
+pub name_demand_grows : (defining : Bool) (x : Option Named) (token : ℕ) (p : Pos) (s : State) → Grows s (name_demand defining x token p s)
 name_demand_grows true None token p s = complain_grows 37 token p s
 name_demand_grows true (Some x) token p s = as_it_was s
 name_demand_grows false x token p s = as_it_was s
@@ -110,7 +110,7 @@ param_grows defining p specs stars x ls i s =
     specs_grow false specs unspelled s ▸ rule_grows r s.at p t.state ▸ name_grows defining x b ▸ lengths_grow [] ls v ▸ name_demand_grows defining x s.at p l.state ▸ rule_grows k token (name_pos p x) u
     ▸ parameter_grows token x (kind_at k) (rule k token (name_pos p x) u)
 
-list_grows : (defining : Bool) (ds : DeclShapes) (s : State) → Grows s (type_param_list defining ds s).state
+pub list_grows : (defining : Bool) (ds : DeclShapes) (s : State) → Grows s (type_param_list defining ds s).state
 list_grows defining no_decls s = as_it_was s
 list_grows defining (more_decls (decl p specs no_declarators) rest) s = let v = complain 33 s.at first_place s in complain_grows 33 s.at first_place s ▸ list_grows defining rest (step v)
 list_grows defining (more_decls (decl p specs (more_declarators (declarator stars x (arrays ls) i) no_declarators)) rest) s =
@@ -133,13 +133,13 @@ unclear_grows : (token : ℕ) (p : Pos) (x : Text) (o : Option Entity) (s : Stat
 unclear_grows token p x None s = as_it_was s
 unclear_grows token p x (Some o) s = demand_grows _ 31 token p s
 
-declared_grows : (defining : Bool) (token : ℕ) (p : Pos) (x : Text) (f : Option Signature) (s : State) → Grows s (declare_function defining token p x f s).state
+pub declared_grows : (defining : Bool) (token : ℕ) (p : Pos) (x : Text) (f : Option Signature) (s : State) → Grows s (declare_function defining token p x f s).state
 declared_grows defining token p x None s = unclear_grows token p x (find_here x s.names) s
 declared_grows defining token p x (Some f) s =
     let m = mention x f.result f.params s in
     mention_grows x f.result f.params (function_number x f.result f.params s.tables.functions) s ▸ function_at_grows defining token p x (function_entity x f m.number) (find_here x m.state.names) m.state
 
-closed_params_grows : (defining : Bool) (s : State) → Grows s (closed_params defining s)
+pub closed_params_grows : (defining : Bool) (s : State) → Grows s (closed_params defining s)
 closed_params_grows true s = as_it_was s
 closed_params_grows false s = as_it_was s
 
@@ -159,7 +159,7 @@ declarator_grows : (k : Option TypeOf) (d : DeclaratorShape) (s : State) → Gro
 declarator_grows k (declarator stars x (arrays ls) i) s = variable_grows k stars x ls i s
 declarator_grows k (declarator stars x (function ps) i) s = function_grows false k stars x ps i s
 
-declarators_grow : (k : Option TypeOf) (ds : DeclaratorShapes) (s : State) → Grows s (type_declarators k ds s).state
+pub declarators_grow : (k : Option TypeOf) (ds : DeclaratorShapes) (s : State) → Grows s (type_declarators k ds s).state
 declarators_grow k no_declarators s = as_it_was s
 declarators_grow k (more_declarators d rest) s = let t = type_declarator k d s in declarator_grows k d s ▸ declarators_grow k rest (step t.state)
 
@@ -176,14 +176,14 @@ decls_grow (more_decls d rest) s = decl_grows d s ▸ decls_grow rest (type_decl
 
 -- ---- statements
 
-maybe_grows : (e : MaybeNode) (s : State) → Grows s (type_maybe e s).state
+pub maybe_grows : (e : MaybeNode) (s : State) → Grows s (type_maybe e s).state
 maybe_grows no_node s = as_it_was s
 maybe_grows (one_node a) s = node_grows a s
 
-test_grows : (first : ℕ) (a : NodeShape) (s : State) → Grows s (tested first (type_node a s))
+pub test_grows : (first : ℕ) (a : NodeShape) (s : State) → Grows s (tested first (type_node a s))
 test_grows first a s = let t = type_node a s in node_grows a s ▸ rule_grows _ first (pos_in t.node) t.state
 
-maybe_test_grows : (e : MaybeNode) (s : State) → Grows s (type_test e s).state
+pub maybe_test_grows : (e : MaybeNode) (s : State) → Grows s (type_test e s).state
 maybe_test_grows no_node s = as_it_was s
 maybe_test_grows (one_node a) s = test_grows s.at a s
 
@@ -195,7 +195,7 @@ pub marks_grow : (ms : List ProbeMark) (s : State) → Grows s (type_marks ms s)
 marks_grow [] s = as_it_was s
 marks_grow (m ∷ ms) s = let v = claim block m.number s.at m.pos s in claim_grows block m.number s.at m.pos s ▸ marks_grow ms (steps 5 v)
 
-case_grows : (token : ℕ) (p : Pos) (o : Option Labels) (v : Option ℤ) (s : State) → Grows s (case_state token p o v s)
+pub case_grows : (token : ℕ) (p : Pos) (o : Option Labels) (v : Option ℤ) (s : State) → Grows s (case_state token p o v s)
 case_grows token p None v s = complain_grows 37 token p s
 case_grows token p (Some l) v s = demand_grows _ 36 token p s
 
@@ -203,7 +203,7 @@ default_grows : (token : ℕ) (p : Pos) (o : Option Labels) (s : State) → Grow
 default_grows token p None s = complain_grows 37 token p s
 default_grows token p (Some l) s = demand_grows _ 36 token p s
 
-labels_grow : (o : Option Labels) (ls : List LabelShape) (s : State) → Grows s (type_labels o ls s).state
+pub labels_grow : (o : Option Labels) (ls : List LabelShape) (s : State) → Grows s (type_labels o ls s).state
 labels_grow o [] s = as_it_was s
 labels_grow o (case p a ∷ rest) s =
     let t = type_node a (step s) in
@@ -213,7 +213,7 @@ labels_grow o (case p a ∷ rest) s =
 labels_grow o (default p ∷ rest) s = default_grows s.at p o s ▸ labels_grow (default_labels o) rest (steps 2 (default_state s.at p o s))
 
 mutual
-  stmt_grows : (c : Surroundings) (a : StmtShape) (s : State) → Grows s (type_stmt c a s).state
+  pub stmt_grows : (c : Surroundings) (a : StmtShape) (s : State) → Grows s (type_stmt c a s).state
   stmt_grows c (stmt p ms q f) s = marks_grow ms s ▸ body_grows c q f (type_marks ms s)
 
   body_grows : (c : Surroundings) (p : Pos) (f : FormShape) (s : State) → Grows s (type_body c p f s).state
@@ -244,7 +244,7 @@ mutual
   pub compound_grows : (c : Surroundings) (b : CompoundShape) (s : State) → Grows s (type_compound c b s).state
   compound_grows c (braces p ds items) s = decls_grow ds (step s) ▸ items_grow c None items (type_decls ds (step s)).state
 
-  items_grow : (c : Surroundings) (o : Option Labels) (items : ItemShapes) (s : State) → Grows s (type_items c o items s).state
+  pub items_grow : (c : Surroundings) (o : Option Labels) (items : ItemShapes) (s : State) → Grows s (type_items c o items s).state
   items_grow c o no_items s = as_it_was s
   items_grow c o (more_items labels a rest) s =
       let l = type_labels o labels s in
@@ -257,7 +257,7 @@ variable_of_grows : (x : Text) (k : Option TypeOf) (e : Option Entity) (s : Stat
 variable_of_grows x k None s = with_variable_grows x k s
 variable_of_grows x k (Some e) s = as_it_was s
 
-variables_grow : (xs : List (Text × Option TypeOf)) (s : State) → Grows s (with_variables xs s)
+pub variables_grow : (xs : List (Text × Option TypeOf)) (s : State) → Grows s (with_variables xs s)
 variables_grow [] s = as_it_was s
 variables_grow ((x, k) ∷ rest) s = variable_of_grows x k (find_here x s.names) s ▸ variables_grow rest (variable_of x k (find_here x s.names) s)
 

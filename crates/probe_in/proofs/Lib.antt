@@ -1,6 +1,9 @@
 pub mod ReadNumbers
 pub mod Ready
 pub mod ReadyUnits
+pub mod ErasedPlain
+pub mod ErasedProbed
+pub mod ErasedUnits
 pub mod OwnPlain
 pub mod OwnProbed
 pub mod OwnUnits

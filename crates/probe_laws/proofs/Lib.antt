@@ -1,7 +1,5 @@
 mod Counted
 pub mod FewItems
-mod Grows
-mod GrowsUnits
 mod Settled
 mod Known
 mod Rules

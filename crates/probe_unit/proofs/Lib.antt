@@ -1,3 +1,6 @@
 pub mod Lists
 pub mod Stated
 pub mod Functions
+pub mod Copied
+pub mod Digests
+pub mod Programs

@@ -4,5 +4,7 @@
 mod build;
 mod declarations;
 mod defining;
+pub mod program;
 mod statements;
+mod tables;
 pub mod unit;

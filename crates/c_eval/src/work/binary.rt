@@ -2,7 +2,7 @@ ghost use Rattle.std.specs.Prelude.{◌≡◌, ◌≤◌, ◌+◌, List, Some, I
 ghost use Rattle.atac_base.specs.declared.probes.Event.{Event};
 ghost use Rattle.c_syntax.specs.Shape.{two, plain};
 ghost use Rattle.c_syntax.specs.View.{node_shape, expr_shape};
-ghost use Rattle.c_tree.specs.Tables.{TablesShape};
+ghost use Rattle.c_tree.specs.Tables.{TablesShape, tables_shape};
 ghost use Rattle.c_meaning.specs.State.{State};
 ghost use Rattle.c_meaning.specs.Results.{then_do};
 ghost use Rattle.c_meaning.specs.Knot.{Knot};
@@ -11,12 +11,13 @@ ghost use Rattle.c_eval.specs.Rest.{value, Val, waiting, on_second, left, rest, 
 ghost use Rattle.c_eval.specs.Forms.{Kept};
 
 use super::Work;
-use crate::at_once::at_once;
+use crate::direct::direct;
 use crate::frame::{Reply, Step, Wait};
 use crate::leaf::combined;
 use atac_base::place::NoMemory;
 use c_store::value::Value;
 use c_syntax::tree::{BinaryOp, Node};
+use c_tree::tables::Tables;
 use c_world::world::World;
 
 #[tactic(auto, using(crate::proofs::Steps::frames_push, crate::proofs::Steps::weights_push, crate::proofs::Steps::then_then, crate::proofs::Once::once_given, crate::proofs::Once::once_stopped))]
@@ -24,6 +25,7 @@ impl<'p> Work<'p> {
     // The operands of an operator that evaluates both.
     pub(super) fn binary(
         &mut self,
+        tables: &'p Tables,
         world: &mut World<'p>,
         node: &'p Node,
         op: BinaryOp,
@@ -31,19 +33,19 @@ impl<'p> Work<'p> {
         b: &'p Node,
     ) -> Result<Step, NoMemory>
         requires { expr_shape node.now.form ≡ two (plain op) (node_shape a.now) (node_shape b.now) }
-        ensures rest { IfOk result (λ r. (t : TablesShape) (k : Knot) (h : List Event) → rest_after t k r self.new (state_of world.new h) ≡ then_do (value t k (node_shape a.now) (state_of world.old h)) (λ v s. waiting t k node.now Wait.Operand (left t k self.old) (Val v) s)) }
+        ensures rest { IfOk result (λ r. (k : Knot) (h : List Event) → rest_after (tables_shape tables.now) k r self.new (state_of world.new h) ≡ then_do (value (tables_shape tables.now) k (node_shape a.now) (state_of world.old h)) (λ v s. waiting (tables_shape tables.now) k node.now Wait.Operand (left (tables_shape tables.now) k self.old) (Val v) s)) }
         ensures size { IfOk result (λ a. size_after a self.new ≤ 1 + weights self.old.stack.items) }
         ensures kept { OnOk result (Kept world.old world.new) }
         ensures turns { OnOk result (world.new.turns ≤ world.old.turns) }
     {
-        match at_once(world, a) {
+        match direct(tables, world, a) {
             None => {
                 let step = self.go(node, Wait::Operand, a)?;
                 Ok(step)
             }
             Some(Reply::Stopped(why)) => Ok(Step::Stopped(why)),
             Some(Reply::Value(value)) => {
-                let step = self.right(world, node, op, a, b, value)?;
+                let step = self.right(tables, world, node, op, a, b, value)?;
                 Ok(step)
             }
         }
@@ -53,6 +55,7 @@ impl<'p> Work<'p> {
     #[inline(always)]
     fn right(
         &mut self,
+        tables: &'p Tables,
         world: &mut World<'p>,
         node: &'p Node,
         op: BinaryOp,
@@ -61,12 +64,12 @@ impl<'p> Work<'p> {
         first: Value,
     ) -> Result<Step, NoMemory>
         requires { expr_shape node.now.form ≡ two (plain op) (node_shape a.now) (node_shape b.now) }
-        ensures rest { IfOk result (λ r. (t : TablesShape) (k : Knot) (h : List Event) → rest_after t k r self.new (state_of world.new h) ≡ then_do (value t k (node_shape b.now) (state_of world.old h)) (λ v s. waiting t k node.now (Wait.Second first) (left t k self.old) (Val v) s)) }
+        ensures rest { IfOk result (λ r. (k : Knot) (h : List Event) → rest_after (tables_shape tables.now) k r self.new (state_of world.new h) ≡ then_do (value (tables_shape tables.now) k (node_shape b.now) (state_of world.old h)) (λ v s. waiting (tables_shape tables.now) k node.now (Wait.Second first) (left (tables_shape tables.now) k self.old) (Val v) s)) }
         ensures size { IfOk result (λ a. size_after a self.new ≤ 1 + weights self.old.stack.items) }
         ensures kept { OnOk result (Kept world.old world.new) }
         ensures turns { OnOk result (world.new.turns ≤ world.old.turns) }
     {
-        match at_once(world, b) {
+        match direct(tables, world, b) {
             None => {
                 let step = self.go(node, Wait::Second(first), b)?;
                 Ok(step)

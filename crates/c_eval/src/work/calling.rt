@@ -14,8 +14,8 @@ ghost use Rattle.c_eval.specs.Forms.{Kept};
 
 use super::Work;
 use super::passing::pass_place;
-use crate::at_once::at_once;
 use crate::builtins::built_in;
+use crate::direct::direct;
 use crate::frame::{Reply, Step, Wait};
 use atac_base::place::NoMemory;
 use c_compute::operators::converted;
@@ -68,7 +68,7 @@ impl<'p> Work<'p> {
                 let step = self.invoke(tables, world, node, done)?;
                 return Ok(step);
             };
-            match at_once(world, first) {
+            match direct(tables, world, first) {
                 None => {
                     let step = self.go(node, Wait::Argument(kinds, behind, done), first)?;
                     return Ok(step);

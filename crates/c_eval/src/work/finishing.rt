@@ -2,7 +2,7 @@ ghost use Rattle.std.specs.Prelude.{◌≡◌, ◌≤◌, ◌+◌, List, Option,
 ghost use Rattle.atac_base.specs.declared.probes.Event.{Event};
 ghost use Rattle.c_syntax.specs.View.{node_shape, expr_shape};
 ghost use Rattle.c_store.specs.declared.value.Value.{Value};
-ghost use Rattle.c_tree.specs.Tables.{TablesShape};
+ghost use Rattle.c_tree.specs.Tables.{TablesShape, tables_shape};
 ghost use Rattle.c_meaning.specs.State.{State};
 ghost use Rattle.c_meaning.specs.Results.{then_do};
 ghost use Rattle.c_meaning.specs.Knot.{Knot};
@@ -11,7 +11,7 @@ ghost use Rattle.c_eval.specs.Rest.{value, Val, waiting, on_second, on_written, 
 ghost use Rattle.c_eval.specs.Forms.{Kept, is_last};
 
 use super::Work;
-use crate::at_once::at_once;
+use crate::direct::direct;
 use crate::frame::{Reply, Step, Wait};
 use crate::leaf::{combined, converted_by, element_at, truth_at};
 use crate::telling::{write, write_combined};
@@ -19,6 +19,7 @@ use atac_base::place::NoMemory;
 use c_meaning::end::Stop;
 use c_store::value::{Fault, Pointer, Value};
 use c_syntax::tree::{Expr, Node};
+use c_tree::tables::Tables;
 use c_world::world::World;
 
 #[tactic(auto, using(crate::proofs::Steps::frames_push, crate::proofs::Steps::weights_push, crate::proofs::Steps::then_then, crate::proofs::Once::once_given, crate::proofs::Once::once_stopped))]
@@ -27,18 +28,19 @@ impl<'p> Work<'p> {
     #[inline(always)]
     pub(super) fn last(
         &mut self,
+        tables: &'p Tables,
         world: &mut World<'p>,
         node: &'p Node,
         wait: Wait<'p>,
         operand: &'p Node,
     ) -> Result<Step, NoMemory>
         requires { is_last wait ≡ true }
-        ensures rest { IfOk result (λ a. (t : TablesShape) (k : Knot) (h : List Event) → rest_after t k a self.new (state_of world.new h) ≡ then_do (value t k (node_shape operand.now) (state_of world.old h)) (λ v s. waiting t k node.now wait.entry (left t k self.old) (Val v) s)) }
+        ensures rest { IfOk result (λ a. (k : Knot) (h : List Event) → rest_after (tables_shape tables.now) k a self.new (state_of world.new h) ≡ then_do (value (tables_shape tables.now) k (node_shape operand.now) (state_of world.old h)) (λ v s. waiting (tables_shape tables.now) k node.now wait.entry (left (tables_shape tables.now) k self.old) (Val v) s)) }
         ensures size { IfOk result (λ a. size_after a self.new ≤ 1 + weights self.old.stack.items) }
         ensures kept { OnOk result (Kept world.old world.new) }
         ensures turns { OnOk result (world.new.turns ≤ world.old.turns) }
     {
-        match at_once(world, operand) {
+        match direct(tables, world, operand) {
             None => {
                 let step = self.go(node, wait, operand)?;
                 Ok(step)

@@ -9,7 +9,8 @@ ghost use Rattle.c_eval.specs.Rest.{value, place, Val, Spot, waiting, on_operand
 ghost use Rattle.c_eval.specs.Forms.{Kept};
 
 use super::Work;
-use crate::at_once::{array_at_once, at_once, place_at_once};
+use crate::at_once::place_at_once;
+use crate::direct::direct;
 use crate::frame::{Reply, Step, Wait};
 use atac_base::place::NoMemory;
 use c_meaning::end::Stop;
@@ -32,33 +33,7 @@ impl<'p> Work<'p> {
         ensures kept { OnOk result (Kept world.old world.new) }
         ensures turns { OnOk result (world.new.turns ≤ world.old.turns) }
     {
-        match at_once(world, operand) {
-            None => {
-                let step = self.first_array(tables, world, node, operand)?;
-                Ok(step)
-            }
-            Some(Reply::Stopped(why)) => Ok(Step::Stopped(why)),
-            Some(Reply::Value(value)) => {
-                let step = self.take_operand(tables, world, node, value)?;
-                Ok(step)
-            }
-        }
-    }
-
-    // The same of an operand that is no scalar variable: one that is an array has its value at once.
-    fn first_array(
-        &mut self,
-        tables: &'p Tables,
-        world: &mut World<'p>,
-        node: &'p Node,
-        operand: &'p Node,
-    ) -> Result<Step, NoMemory>
-        ensures rest { IfOk result (λ a. (k : Knot) (h : List Event) → rest_after (tables_shape tables.now) k a self.new (state_of world.new h) ≡ then_do (value (tables_shape tables.now) k (node_shape operand.now) (state_of world.old h)) (λ v s. waiting (tables_shape tables.now) k node.now Wait.Operand (left (tables_shape tables.now) k self.old) (Val v) s)) }
-        ensures size { IfOk result (λ a. size_after a self.new ≤ 1 + weights self.old.stack.items) }
-        ensures kept { OnOk result (Kept world.old world.new) }
-        ensures turns { OnOk result (world.new.turns ≤ world.old.turns) }
-    {
-        match array_at_once(tables, world, operand) {
+        match direct(tables, world, operand) {
             None => {
                 let step = self.go(node, Wait::Operand, operand)?;
                 Ok(step)

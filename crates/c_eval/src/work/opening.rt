@@ -11,8 +11,8 @@ ghost use Rattle.c_eval.specs.Forms.{Kept, told, is_probe, is_bare_place, is_bar
 
 use super::Work;
 use super::passing::pass_place;
-use crate::at_once::at_once;
 use crate::builtins::built_in;
+use crate::direct::direct;
 use crate::frame::{Frame, Passed, Reply, Step, Wait};
 use crate::telling::tell_test;
 use atac_base::place::NoMemory;
@@ -37,7 +37,7 @@ impl<'p> Work<'p> {
     {
         match self.pass(world, node)? {
             Passed::Stopped(why) => Ok(Step::Stopped(why)),
-            Passed::Node(node) => match at_once(world, node) {
+            Passed::Node(node) => match direct(tables, world, node) {
                 Some(Reply::Value(value)) => Ok(self.now(Some(value))),
                 Some(Reply::Stopped(why)) => Ok(Step::Stopped(why)),
                 None => {

@@ -137,7 +137,7 @@ impl<'p> Work<'p> {
     {
         match &node.form {
             Expr::Binary(op, a, b) => {
-                let step = self.binary(world, node, *op, a, b)?;
+                let step = self.binary(tables, world, node, *op, a, b)?;
                 Ok(step)
             }
             Expr::And(a, _) => {

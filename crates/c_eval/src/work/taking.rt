@@ -126,7 +126,7 @@ impl<'p> Work<'p> {
     {
         match &node.form {
             Expr::Binary(_, _, b) | Expr::Index(_, b) => {
-                let step = self.last(world, node, Wait::Second(value), b)?;
+                let step = self.last(tables, world, node, Wait::Second(value), b)?;
                 Ok(step)
             }
             Expr::Unary(UnaryOp::Deref, _) => Ok(self.settled(target(value))),
@@ -134,7 +134,7 @@ impl<'p> Work<'p> {
             Expr::Cast(_, _) => Ok(self.cast(node, Some(value))),
             Expr::Arrow(a, name, _) => Ok(self.found(field_behind(tables, world, name, a, value))),
             Expr::And(_, _) | Expr::Or(_, _) | Expr::Cond(_, _, _) | Expr::Comma(_, _) => {
-                let step = self.take_test(world, node, value)?;
+                let step = self.take_test(tables, world, node, value)?;
                 Ok(step)
             }
             _ => Ok(Step::Stopped(Stop::Fault(Fault::NoResult))),
@@ -144,12 +144,13 @@ impl<'p> Work<'p> {
     // An operand behind which another one is evaluated or not.
     fn take_test(
         &mut self,
+        tables: &'p Tables,
         world: &mut World<'p>,
         node: &'p Node,
         value: Value,
     ) -> Result<Step, NoMemory>
         requires { is_choosing node.now.form ≡ true }
-        ensures rest { IfOk result (λ a. (t : TablesShape) (k : Knot) (h : List Event) → rest_after t k a self.new (state_of world.new h) ≡ on_operand t k (note_shape node.now.note) (expr_shape node.now.form) (left t k self.old) (Val (Some value)) (state_of world.old h)) }
+        ensures rest { IfOk result (λ a. (k : Knot) (h : List Event) → rest_after (tables_shape tables.now) k a self.new (state_of world.new h) ≡ on_operand (tables_shape tables.now) k (note_shape node.now.note) (expr_shape node.now.form) (left (tables_shape tables.now) k self.old) (Val (Some value)) (state_of world.old h)) }
         ensures size { IfOk result (λ a. size_after a self.new ≤ 1 + weights self.old.stack.items) }
         ensures kept { OnOk result (Kept world.old world.new) }
         ensures turns { OnOk result (world.new.turns ≤ world.old.turns) }
@@ -157,7 +158,7 @@ impl<'p> Work<'p> {
         match &node.form {
             Expr::And(_, b) => {
                 if is_true(value) {
-                    let step = self.last(world, node, Wait::Truth, b)?;
+                    let step = self.last(tables, world, node, Wait::Truth, b)?;
                     Ok(step)
                 } else {
                     Ok(self.now(Some(Value::Int(0))))
@@ -167,16 +168,16 @@ impl<'p> Work<'p> {
                 if is_true(value) {
                     Ok(self.now(Some(Value::Int(1))))
                 } else {
-                    let step = self.last(world, node, Wait::Truth, b)?;
+                    let step = self.last(tables, world, node, Wait::Truth, b)?;
                     Ok(step)
                 }
             }
             Expr::Cond(_, b, c) => {
                 if is_true(value) {
-                    let step = self.last(world, node, Wait::Chosen, b)?;
+                    let step = self.last(tables, world, node, Wait::Chosen, b)?;
                     Ok(step)
                 } else {
-                    let step = self.last(world, node, Wait::Chosen, c)?;
+                    let step = self.last(tables, world, node, Wait::Chosen, c)?;
                     Ok(step)
                 }
             }
@@ -306,13 +307,13 @@ impl<'p> Work<'p> {
     {
         match &node.form {
             Expr::Assign(None, _, b) => {
-                let step = self.last(world, node, Wait::Into(at), b)?;
+                let step = self.last(tables, world, node, Wait::Into(at), b)?;
                 Ok(step)
             }
             Expr::Assign(Some(_), a, b) => match load(world, a, at)? {
                 Reply::Stopped(why) => Ok(Step::Stopped(why)),
                 Reply::Value(left) => {
-                    let step = self.last(world, node, Wait::Combine(at, left), b)?;
+                    let step = self.last(tables, world, node, Wait::Combine(at, left), b)?;
                     Ok(step)
                 }
             },

@@ -16,6 +16,7 @@ returns-in-Ok-sites c =
       program = refl;
       accepted = record { unit = unit_shape p.unit; tables = tables_shape p.tables; read = c.in-Ok.ensures.read; clean = c.in-Ok-sites.ensures.clean };
       lists = c.in-Ok-sites.ensures.numbered.lists;
+      sites = c.in-Ok-sites.ensures;
     }
 
 pub returns : goal.returns

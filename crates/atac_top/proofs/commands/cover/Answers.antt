@@ -3,9 +3,8 @@ use Rattle.std.proofs.Common.{refl, ap, sym, ◌∙◌, subst, Some, None, ◌�
 use Rattle.std.proofs.lemmas.Result.{err_from_is_err_and}
 use Rattle.atac_base.specs.Outside.{Said, Agrees}
 use Rattle.atac_top.specs.Words.{Cover}
-use Rattle.atac_top.specs.Programs.{Refuses, Covers, section, report}
+use Rattle.atac_top.specs.Programs.{Refuses, Covers, program_in, section, report}
 use Rattle.atac_top.specs.Answers.{Answer, text}
-use Rattle.c_routines.specs.Routines.{source_of}
 use Rattle.atac_top.proofs.Asked.{cover_stopped_first, cover_understands, cover_refused, cover_stopped, cover_done, cover_text}
 use Rattle.atac_top.proofs.Exits.{wants_memory, wants_at_once, program_stops, not_accepted, fetch_stops, put_breaks, put_ends, known_nothing}
 use Rattle.atac_top.proofs.Reading.{read_refused, read_given}
@@ -44,40 +43,25 @@ returns-in_err-bytes g c =
     let agrees = subst (λ (says : List ℕ → Said). Agrees (says c.args.input.now) h.found) f.says h.agrees in
     let u = c.in-Covers.understood in
     let q = read_given _ u _ _ c.in-Covers.is c.as_slice.ensures.value c.in_ok-said.ensures in
-    let P = source_of u.program in
-    let Q = q.first.program in
-    let is = cover_understands c.args.limit c.args.program.now c.args.input.now f.found h.found _ f.gives (Covers P Q) (record { accepted = q.accepted; program = q.program; first = q.first.first }) in
-    rw (p.1, p.2) (fetch_stops (Some (Cover _ _ _)) _ _ _ _ (f.found ∷ h.found ∷ []) (f.agrees, (agrees, tt)) (Covers P Q) is (h.says ∙ f.says) (shelf_goes_on _ _ _ f.grows h.grows) (sink_stays _)
+    let P = program_in q.accepted in
+    let is = cover_understands c.args.limit c.args.program.now c.args.input.now f.found h.found _ f.gives (Covers P) (record { accepted = q.accepted; program = refl }) in
+    rw (p.1, p.2) (fetch_stops (Some (Cover _ _ _)) _ _ _ _ (f.found ∷ h.found ∷ []) (f.agrees, (agrees, tt)) (Covers P) is (h.says ∙ f.says) (shelf_goes_on _ _ _ f.grows h.grows) (sink_stays _)
     1 _ 16777216 h.found (g.S.Shelf.state c.fetch.new.shelf) [] _ h.gives refl f.grows
-    (λ e. let stopped = cover_stopped c.args.limit c.args.program.now c.args.input.now f.found h.found _ f.gives P Q _ e in
+    (λ e. let stopped = cover_stopped c.args.limit c.args.program.now c.args.input.now f.found h.found _ f.gives P _ e in
     (sym (ap (λ (a : Answer). a.end) stopped), sym (ap (λ (a : Answer). text a) stopped)))
     refl (known_nothing _))
 
-pub returns-in_err-section : goal.returns-in_err-section
-returns-in_err-section g c =
-    let p = err_from_is_err_and c.from_residual-in_err-section.result c.from_residual-in_err-section.ensures.1 in
+pub returns-in_err-covering : goal.returns-in_err-covering
+returns-in_err-covering g c =
+    let p = err_from_is_err_and c.from_residual-in_err-covering.result c.from_residual-in_err-covering.ensures.1 in
     let f = c.in_ok-source.ensures in
     let h = c.in_ok-bytes.ensures in
     let agrees = subst (λ (says : List ℕ → Said). Agrees (says c.args.input.now) h.found) f.says h.agrees in
     let u = c.in-Covers.understood in
     let q = read_given _ u _ _ c.in-Covers.is c.as_slice.ensures.value c.in_ok-said.ensures in
-    let P = source_of u.program in
-    let Q = q.first.program in
-    let is = cover_understands c.args.limit c.args.program.now c.args.input.now f.found h.found _ f.gives (Covers P Q) (record { accepted = q.accepted; program = q.program; first = q.first.first }) in
-    rw (p.1, p.2) (wants_memory (Some (Cover _ _ _)) _ _ _ _ (f.found ∷ h.found ∷ []) (f.agrees, (agrees, tt)) (Covers P Q) is (h.says ∙ f.says) (shelf_goes_on _ _ _ f.grows h.grows) (sink_stays _) 0 [] refl (known_nothing _))
-
-pub returns-in_err-report : goal.returns-in_err-report
-returns-in_err-report g c =
-    let p = err_from_is_err_and c.from_residual-in_err-report.result c.from_residual-in_err-report.ensures.1 in
-    let f = c.in_ok-source.ensures in
-    let h = c.in_ok-bytes.ensures in
-    let agrees = subst (λ (says : List ℕ → Said). Agrees (says c.args.input.now) h.found) f.says h.agrees in
-    let u = c.in-Covers.understood in
-    let q = read_given _ u _ _ c.in-Covers.is c.as_slice.ensures.value c.in_ok-said.ensures in
-    let P = source_of u.program in
-    let Q = q.first.program in
-    let is = cover_understands c.args.limit c.args.program.now c.args.input.now f.found h.found _ f.gives (Covers P Q) (record { accepted = q.accepted; program = q.program; first = q.first.first }) in
-    rw (p.1, p.2) (wants_memory (Some (Cover _ _ _)) _ _ _ _ (f.found ∷ h.found ∷ []) (f.agrees, (agrees, tt)) (Covers P Q) is (h.says ∙ f.says) (shelf_goes_on _ _ _ f.grows h.grows) (sink_stays _) 0 [] refl (known_nothing _))
+    let P = program_in q.accepted in
+    let is = cover_understands c.args.limit c.args.program.now c.args.input.now f.found h.found _ f.gives (Covers P) (record { accepted = q.accepted; program = refl }) in
+    rw (p.1, p.2) (wants_memory (Some (Cover _ _ _)) _ _ _ _ (f.found ∷ h.found ∷ []) (f.agrees, (agrees, tt)) (Covers P) is (h.says ∙ f.says) (shelf_goes_on _ _ _ f.grows h.grows) (sink_stays _) 0 [] refl (known_nothing _))
 
 pub returns-in_err-put : goal.returns-in_err-put
 returns-in_err-put g c =
@@ -87,13 +71,12 @@ returns-in_err-put g c =
     let agrees = subst (λ (says : List ℕ → Said). Agrees (says c.args.input.now) h.found) f.says h.agrees in
     let u = c.in-Covers.understood in
     let q = read_given _ u _ _ c.in-Covers.is c.as_slice.ensures.value c.in_ok-said.ensures in
-    let P = source_of u.program in
-    let Q = q.first.program in
-    let is = cover_understands c.args.limit c.args.program.now c.args.input.now f.found h.found _ f.gives (Covers P Q) (record { accepted = q.accepted; program = q.program; first = q.first.first }) in
-    let whole = cover_text c.args.limit c.args.program.now c.args.input.now f.found h.found _ f.gives P Q _ h.gives in
-    let first = c.as_slice-4.ensures.value ∙ (c.in_ok-section.ensures ∙ ap (λ b. section c.args.input.now P b c.args.limit) c.as_slice-2.ensures.value) in
-    let after = report Q c.in_ok-bytes.bytes.items c.args.limit in
-    rw (p.1, p.2) (put_breaks (Some (Cover _ _ _)) _ _ _ _ (f.found ∷ h.found ∷ []) (f.agrees, (agrees, tt)) (Covers P Q) is (h.says ∙ f.says) (shelf_goes_on _ _ _ f.grows h.grows) c.in_err-put.ensures.grows
+    let P = program_in q.accepted in
+    let is = cover_understands c.args.limit c.args.program.now c.args.input.now f.found h.found _ f.gives (Covers P) (record { accepted = q.accepted; program = refl }) in
+    let whole = cover_text c.args.limit c.args.program.now c.args.input.now f.found h.found _ f.gives P _ h.gives in
+    let first = c.as_slice-3.ensures.value ∙ (c.in_ok-covering.ensures.section P q.holds ∙ ap (λ b. section c.args.input.now P b c.args.limit) c.as_slice-2.ensures.value) in
+    let after = report P c.in_ok-bytes.bytes.items c.args.limit in
+    rw (p.1, p.2) (put_breaks (Some (Cover _ _ _)) _ _ _ _ (f.found ∷ h.found ∷ []) (f.agrees, (agrees, tt)) (Covers P) is (h.says ∙ f.says) (shelf_goes_on _ _ _ f.grows h.grows) c.in_err-put.ensures.grows
     (g.W.Sink.state c.args.out.now) [] _ after _ c.in_err-put.ensures (whole ∙ ap (λ xs. xs ++ after) (sym first)) (known_nothing _) (sink_stays _))
 
 pub returns : goal.returns
@@ -103,13 +86,12 @@ returns g c =
     let agrees = subst (λ (says : List ℕ → Said). Agrees (says c.args.input.now) h.found) f.says h.agrees in
     let u = c.in-Covers.understood in
     let q = read_given _ u _ _ c.in-Covers.is c.as_slice.ensures.value c.in_ok-said.ensures in
-    let P = source_of u.program in
-    let Q = q.first.program in
-    let is = cover_understands c.args.limit c.args.program.now c.args.input.now f.found h.found _ f.gives (Covers P Q) (record { accepted = q.accepted; program = q.program; first = q.first.first }) in
-    let whole = cover_text c.args.limit c.args.program.now c.args.input.now f.found h.found _ f.gives P Q _ h.gives in
-    let done = cover_done c.args.limit c.args.program.now c.args.input.now f.found h.found _ f.gives P Q _ h.gives in
-    let first = c.as_slice-4.ensures.value ∙ (c.in_ok-section.ensures ∙ ap (λ b. section c.args.input.now P b c.args.limit) c.as_slice-2.ensures.value) in
-    let second = c.as_slice-5.ensures.value ∙ (c.in_ok-report.ensures Q q.first.holds ∙ ap (λ b. report Q b c.args.limit) c.as_slice-3.ensures.value) in
-    put_ends (Some (Cover _ _ _)) _ _ _ _ (f.found ∷ h.found ∷ []) (f.agrees, (agrees, tt)) (Covers P Q) is (h.says ∙ f.says) (shelf_goes_on _ _ _ f.grows h.grows) (sink_goes_on _ _ _ c.in_ok-put.ensures.grows c.put-2.ensures.grows)
+    let P = program_in q.accepted in
+    let is = cover_understands c.args.limit c.args.program.now c.args.input.now f.found h.found _ f.gives (Covers P) (record { accepted = q.accepted; program = refl }) in
+    let whole = cover_text c.args.limit c.args.program.now c.args.input.now f.found h.found _ f.gives P _ h.gives in
+    let done = cover_done c.args.limit c.args.program.now c.args.input.now f.found h.found _ f.gives P _ h.gives in
+    let first = c.as_slice-3.ensures.value ∙ (c.in_ok-covering.ensures.section P q.holds ∙ ap (λ b. section c.args.input.now P b c.args.limit) c.as_slice-2.ensures.value) in
+    let second = c.as_slice-4.ensures.value ∙ (c.in_ok-covering.ensures.report P q.holds ∙ ap (λ b. report P b c.args.limit) c.as_slice-2.ensures.value) in
+    put_ends (Some (Cover _ _ _)) _ _ _ _ (f.found ∷ h.found ∷ []) (f.agrees, (agrees, tt)) (Covers P) is (h.says ∙ f.says) (shelf_goes_on _ _ _ f.grows h.grows) (sink_goes_on _ _ _ c.in_ok-put.ensures.grows c.put-2.ensures.grows)
     (g.W.Sink.state c.put.new.out) _ _ c.put-2.result c.put-2.ensures
     (ap (λ (a : Answer). a.end) done) (ap (λ (a : Answer). a.kept) done) (whole ∙ sym (rw (first, second))) c.in_ok-put.ensures.gives c.in_ok-put.ensures.grows

@@ -1,13 +1,22 @@
--- A text that is not accepted; and a program that is, of the first form or of another.
-use Rattle.std.proofs.Common.{refl}
-use Rattle.atac_top.specs.Programs.{rejected}
-use Rattle.atac_top.proofs.Reading.{check_refused, check_accepts, some_first}
+-- A text that is not accepted; and a program that is.
+use Rattle.std.proofs.Common.{refl, ap, ◌∙◌, subst}
+use Rattle.probe_in.specs.Simulation.{Simulates}
+use Rattle.c_meaning.specs.Calls.{Source}
+use Rattle.c_routines.specs.Routines.{source_of}
+use Rattle.c_sites.specs.Lists.{Lists}
+use Rattle.atac_top.proofs.Reading.{check_refused, check_accepts}
 use Rattle.atac_top.proofs.program.understand.Goals as goal
 
 pub returns-in-Refuses : goal.returns-in-Refuses
-returns-in-Refuses c = rejected (check_refused _ c.in-Refuses.said _ _ c.in-Refuses.is refl c.in_ok-said.ensures)
+returns-in-Refuses c = check_refused _ c.in-Refuses.said _ _ c.in-Refuses.is refl c.in_ok-said.ensures
 
-pub returns-in-Some : goal.returns-in-Some
-returns-in-Some c =
-    let h = check_accepts _ c.in-Accepts.program c.in-Accepts.field-1 _ _ c.in-Accepts.is refl c.in_ok-said.ensures in
-    record { accepted = h.accepted; program = h.program; first = some_first c.args.text.now _ c.in-Some.first c.in-Some.is c.in_ok-understand_first.ensures }
+pub returns : goal.returns
+returns c =
+    let h = check_accepts _ c.in-Accepts.program c.in-Accepts.sites _ _ c.in-Accepts.is refl c.in_ok-said.ensures in
+    record {
+      accepted = h.accepted;
+      holds = record {
+        simulates = subst (λ (P : Source). Simulates (source_of c.in_ok-probed.probed) P) h.program c.in_ok-probed.ensures.simulates;
+        blocks_are = c.in_ok-items.ensures ∙ ap (λ (l : Lists). l.blocks) h.lists;
+      };
+    }

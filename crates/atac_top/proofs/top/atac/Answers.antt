@@ -3,8 +3,7 @@ use Rattle.std.proofs.Common.{refl, inl, inr, []}
 use Rattle.atac_top.specs.Ends.{IsDone, BadWords}
 use Rattle.atac_top.specs.Programs.{Refuses}
 use Rattle.atac_top.specs.Stops.{command_of, end_of}
-use Rattle.atac_top.proofs.Claims.{complete_for, shows}
-use Rattle.atac_top.proofs.Reading.{one_program}
+use Rattle.atac_top.proofs.Claims.{complete_for, shows, same_source}
 use Rattle.atac_top.proofs.Exits.{known_nothing}
 use Rattle.atac_top.proofs.Growing.{shelf_stays, sink_stays}
 use Rattle.atac_top.proofs.top.atac.Goals as goal
@@ -34,13 +33,13 @@ returns-in-Err-clause-complete g c =
 
 pub returns-in-Ok-clause-headline : goal.returns-in-Ok-clause-headline
 returns-in-Ok-clause-headline g c = λ is.
-    rw (← c.in-Some.ensures.command) (shows one_program (command_of c.in-Some.asked) _ _ _ _ IsDone c.in-Ok.ensures refl)
+    rw (← c.in-Some.ensures.command) (shows (command_of c.in-Some.asked) _ _ _ _ IsDone c.in-Ok.ensures refl)
 
 pub returns-in_default-clause-one_program : goal.returns-in_default-clause-one_program
-returns-in_default-clause-one_program g c = one_program
+returns-in_default-clause-one_program g c = same_source
 
 pub returns-in-Ok-clause-one_program : goal.returns-in-Ok-clause-one_program
-returns-in-Ok-clause-one_program g c = one_program
+returns-in-Ok-clause-one_program g c = same_source
 
 pub returns-in-Err-clause-one_program : goal.returns-in-Err-clause-one_program
-returns-in-Err-clause-one_program g c = one_program
+returns-in-Err-clause-one_program g c = same_source

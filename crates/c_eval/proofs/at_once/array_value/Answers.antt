@@ -1,4 +1,4 @@
-use Rattle.std.proofs.Common.{◌∙◌, ap, sym}
+use Rattle.std.proofs.Common.{◌∙◌, ap}
 use Rattle.c_syntax.specs.View.{type_of}
 use Rattle.c_store.specs.declared.value.Value.TheVariants.{At}
 use Rattle.c_store.specs.declared.value.Pointer.{Pointer}

@@ -31,7 +31,7 @@ pub returns-in-None-clause-rest : goal.returns-in-None-clause-rest
 returns-in-None-clause-rest c = λ k h.
     let t = tables_shape c.args.tables.now in
     let n = note_shape c.args.node.now.note in
-    let s = state_of c.at_once.new.world h in
+    let s = state_of c.direct.new.world h in
     let go = left t k c.args.self.now in
     let done = c.loop-first.done in
     let ts = map type_of c.loop-first.kinds.now in
@@ -39,7 +39,7 @@ returns-in-None-clause-rest c = λ k h.
     c.in_ok-step-in-None.ensures.rest t k s
     ∙ ap (λ fs. then_do (value t k (node_shape a) s) (λ v s. waiting t k c.args.node.now (wait.Argument c.loop-first.kinds c.in-Some.behind done) (all_do t k fs answer) (Val v) s)) c.loop-first.invariant.0
     ∙ argument_opens t k c.args.node.now s go a c.in-Some.behind c.loop-first.kinds done ts done.items refl refl
-    ∙ ap (λ s. then_do (then_do (arguments t k (node_list (a ∷ c.in-Some.behind.now)) ts (quiet 0) s) (λ vs. called t k n (done.items ++ vs))) (to_value go)) (c.in-None.ensures.is t k h)
+    ∙ ap (λ s. then_do (then_do (arguments t k (node_list (a ∷ c.in-Some.behind.now)) ts (quiet 0) s) (λ vs. called t k n (done.items ++ vs))) (to_value go)) (c.in-None.ensures.is k h)
     ∙ ap (λ xs. then_do (then_do (arguments t k (node_list xs) ts (quiet 0) (state_of c.loop-first.world h)) (λ vs. called t k n (done.items ++ vs))) (to_value go)) (sym c.in-Some.ensures.cases.0)
     ∙ c.loop-first.invariant.1 k h
 
@@ -52,7 +52,7 @@ loop-first-preserved c = (
   λ k h.
       let t = tables_shape c.args.tables.now in
       let i : c.in-Some-Value.field-0 ≡ reply.Value c.in-Some-Value.value = c.in-Some-Value.field-0-is in
-      argument_taken t k (note_shape c.args.node.now.note) c.in-Some.first.now c.loop-first.others.now c.in-Some.behind.now (map type_of c.loop-first.kinds.now) (map type_of c.behind_first-kinds.result.now) (state_of c.loop-first.world h) (state_of c.at_once.new.world h) c.in-Some-Value.value c.parameter.result c.loop-first.done.items c.push.new.self.items (to_value (left t k c.args.self.now)) (c.in-Some-Value.ensures.is t k h ∙ ap (λ r. then_do (replied r (state_of c.at_once.new.world h)) gives) i) c.in-Some.ensures.cases.0 c.behind_first-kinds.ensures (c.parameter.ensures ∙ ap (as_parameter (map type_of c.loop-first.kinds.now)) c.in-Some-Value.value-is) c.in-Ok.ensures.items
+      argument_taken t k (note_shape c.args.node.now.note) c.in-Some.first.now c.loop-first.others.now c.in-Some.behind.now (map type_of c.loop-first.kinds.now) (map type_of c.behind_first-kinds.result.now) (state_of c.loop-first.world h) (state_of c.direct.new.world h) c.in-Some-Value.value c.parameter.result c.loop-first.done.items c.push.new.self.items (to_value (left t k c.args.self.now)) (c.in-Some-Value.ensures.is k h ∙ ap (λ r. then_do (replied r (state_of c.direct.new.world h)) gives) i) c.in-Some.ensures.cases.0 c.behind_first-kinds.ensures (c.parameter.ensures ∙ ap (as_parameter (map type_of c.loop-first.kinds.now)) c.in-Some-Value.value-is) c.in-Ok.ensures.items
       ∙ c.loop-first.invariant.1 k h,
   omega (arith, c.in-Some-Value.ensures.turns, c.loop-first.invariant.2),
   kept_further _ _ _ c.loop-first.invariant.3 c.in-Some-Value.ensures.kept,

@@ -7,7 +7,7 @@ use Rattle.c_eval.proofs.Opened.{and_opens, binary_opens, choose_opens, comma_op
 use Rattle.c_eval.proofs.work.Work.begin_infix.Goals as goal
 
 pub returns-in_ok-step-in-Binary-clause-rest : goal.returns-in_ok-step-in-Binary-clause-rest
-returns-in_ok-step-in-Binary-clause-rest c = λ k h. c.in_ok-step-in-Binary.ensures.rest (tables_shape c.args.tables.now) k h ∙ binary_opens (tables_shape c.args.tables.now) k c.args.node.now (state_of c.args.world.now h) (left (tables_shape c.args.tables.now) k c.args.self.now) _ _ _ _ (ap expr_shape c.in-Binary.is) (ap node_shape c.deref.ensures)
+returns-in_ok-step-in-Binary-clause-rest c = λ k h. c.in_ok-step-in-Binary.ensures.rest k h ∙ binary_opens (tables_shape c.args.tables.now) k c.args.node.now (state_of c.args.world.now h) (left (tables_shape c.args.tables.now) k c.args.self.now) _ _ _ _ (ap expr_shape c.in-Binary.is) (ap node_shape c.deref.ensures)
 
 pub returns-in_ok-step-in-And-clause-rest : goal.returns-in_ok-step-in-And-clause-rest
 returns-in_ok-step-in-And-clause-rest c = λ k h. c.in_ok-step-in-And.ensures.rest k h ∙ and_opens (tables_shape c.args.tables.now) k c.args.node.now (state_of c.args.world.now h) (left (tables_shape c.args.tables.now) k c.args.self.now) _ _ _ (ap expr_shape c.in-And.is) (ap node_shape c.deref-in-And.ensures)

@@ -10,5 +10,5 @@ use Rattle.c_eval.proofs.work.Work.first.Goals as goal
 pub returns-in_ok-step-in-None-clause-rest : goal.returns-in_ok-step-in-None-clause-rest
 returns-in_ok-step-in-None-clause-rest c = λ k h.
     let t = tables_shape c.args.tables.now in
-    c.in_ok-step-in-None.ensures.rest k h
-    ∙ ap (λ s. then_do (value t k (node_shape c.args.operand.now) s) (λ v s. waiting t k c.args.node.now wait.Operand (left t k c.args.self.now) (Val v) s)) (c.in-None.ensures.is t k h)
+    c.in_ok-step-in-None.ensures.rest t k (state_of c.direct.new.world h)
+    ∙ ap (λ s. then_do (value t k (node_shape c.args.operand.now) s) (λ v s. waiting t k c.args.node.now wait.Operand (left t k c.args.self.now) (Val v) s)) (c.in-None.ensures.is k h)

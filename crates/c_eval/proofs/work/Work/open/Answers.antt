@@ -12,6 +12,6 @@ returns-in_ok-step-in-None-clause-rest c = λ k h.
     let t = tables_shape c.args.tables.now in
     let go = to_value (left t k c.pass.new.self) in
     c.in_ok-step-in-None.ensures.rest k h
-    ∙ ap (λ s. then_do (value t k (node_shape c.in-Node.node.now) s) go) (c.in-None.ensures.is t k h)
+    ∙ ap (λ s. then_do (value t k (node_shape c.in-Node.node.now) s) go) (c.in-None.ensures.is k h)
     ∙ ap (λ r. then_do (passed_value t k r (state_of c.pass.new.world h)) go) (sym c.in-Node.is)
     ∙ c.in_ok-why.ensures.rest t k h

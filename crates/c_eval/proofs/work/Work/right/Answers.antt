@@ -1,5 +1,6 @@
 use Rattle.std.proofs.Common.{◌∙◌, ap}
 use Rattle.c_syntax.specs.View.{node_shape}
+use Rattle.c_tree.specs.Tables.{tables_shape}
 use Rattle.c_meaning.specs.Results.{then_do}
 use Rattle.c_world.specs.World.{state_of}
 use Rattle.c_eval.specs.declared.frame.Wait.TheVariants as wait
@@ -7,6 +8,7 @@ use Rattle.c_eval.specs.Rest.{value, Val, waiting, left}
 use Rattle.c_eval.proofs.work.Work.right.Goals as goal
 
 pub returns-in_ok-step-in-None-clause-rest : goal.returns-in_ok-step-in-None-clause-rest
-returns-in_ok-step-in-None-clause-rest c = λ t k h.
-    c.in_ok-step-in-None.ensures.rest t k (state_of c.at_once.new.world h)
-    ∙ ap (λ s. then_do (value t k (node_shape c.args.b.now) s) (λ v s. waiting t k c.args.node.now (wait.Second c.args.first) (left t k c.args.self.now) (Val v) s)) (c.in-None.ensures.is t k h)
+returns-in_ok-step-in-None-clause-rest c = λ k h.
+    let t = tables_shape c.args.tables.now in
+    c.in_ok-step-in-None.ensures.rest t k (state_of c.direct.new.world h)
+    ∙ ap (λ s. then_do (value t k (node_shape c.args.b.now) s) (λ v s. waiting t k c.args.node.now (wait.Second c.args.first) (left t k c.args.self.now) (Val v) s)) (c.in-None.ensures.is k h)

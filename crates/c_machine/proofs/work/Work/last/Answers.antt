@@ -1,9 +1,0 @@
-use Rattle.std.proofs.Common.{◌∙◌, ap}
-use Rattle.first_tree.specs.View.{node_shape}
-use Rattle.c_machine.specs.Results.{State, Gives, then_do}
-use Rattle.c_machine.specs.Meaning.{value}
-use Rattle.c_machine.specs.Rest.{frame as frame_meaning, frames}
-use Rattle.c_machine.proofs.work.Work.last.Goals as goal
-
-pub returns-in_ok-advance-in-None-clause-rest : goal.returns-in_ok-advance-in-None-clause-rest
-returns-in_ok-advance-in-None-clause-rest c = λ l. c.in_ok-advance-in-None.ensures.rest _ ∙ ap (λ (s : State). then_do (value (node_shape c.args.node.now) s) (frame_meaning c.args.frame (frames c.args.self.now.stack.items Gives))) (c.in-None.ensures.is l)

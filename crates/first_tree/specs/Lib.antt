@@ -1,4 +1,0 @@
-pub mod Shape
-pub mod View
-pub mod Blocks
-pub mod Instrumented
