@@ -155,18 +155,32 @@ is_name note.Bare = true
 abbrev pub IsNamed : Expr → Type 0
 IsNamed f = (x : Text) × (f ≡ Name x)
 
--- constants, variables, their elements, and operators on these
-abbrev pub is_direct : Note → Expr → Bool
-is_direct n (Number x) = true
-is_direct n (Char c) = true
-is_direct n (Str x) = true
-is_direct n (Name x) = is_name n
-is_direct n (SizeOf' _ p o m a) = true
-is_direct n (SizeOfType y) = true
-is_direct n (Paren' _ p o m a) = is_direct m a
-is_direct n (Binary' u _ p o m a _ p' o' m' b) = if is_direct m a then is_direct m' b else false
-is_direct n (Index' _ p o m a _ p' o' m' b) = if is_valued n then if is_direct m a then is_direct m' b else false else false
-is_direct n _ = false
+-- what is evaluated at once: constants and variables; operators but calls, casts, `?:` and commas; elements and what pointers point to;
+-- assignments to these, and steps over them
+abbrev mutual
+  pub is_direct : Note → Expr → Bool
+  is_direct n (Number x) = true
+  is_direct n (Char c) = true
+  is_direct n (Str x) = true
+  is_direct n (Name x) = is_name n
+  is_direct n (SizeOf' _ p o m a) = true
+  is_direct n (SizeOfType y) = true
+  is_direct n (Paren' _ p o m a) = is_direct m a
+  is_direct n (Binary' u _ p o m a _ p' o' m' b) = if is_direct m a then is_direct m' b else false
+  is_direct n (And' _ p o m a _ p' o' m' b) = if is_direct m a then is_direct m' b else false
+  is_direct n (Or' _ p o m a _ p' o' m' b) = if is_direct m a then is_direct m' b else false
+  is_direct n (Unary' u _ p o m a) = if is_address u then false else if is_valued n then is_direct m a else false
+  is_direct n (Index' _ p o m a _ p' o' m' b) = if is_valued n then if is_direct m a then is_direct m' b else false else false
+  is_direct n (Assign' u _ p o m a _ p' o' m' b) = if is_direct_place m a then is_direct m' b else false
+  is_direct n (Step' u _ p o m a) = is_direct_place m a
+  is_direct n _ = false
+
+  -- the places among them
+  pub is_direct_place : Note → Expr → Bool
+  is_direct_place n (Name x) = is_variable n
+  is_direct_place n (Index' _ p o m a _ p' o' m' b) = if is_direct m a then is_direct m' b else false
+  is_direct_place n (Unary' u _ p o m a) = if is_deref u then is_direct m a else false
+  is_direct_place n _ = false
 
 abbrev pub is_prefix : Expr → Bool
 is_prefix (Unary' front.Deref _ p o m a) = false

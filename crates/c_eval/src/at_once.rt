@@ -105,9 +105,9 @@ pub fn place_at_once(
     }
 }
 
-// The turn and the place of a variable.
+/// The turn and the place of a variable.
 #[inline(always)]
-fn place(tables: &Tables, world: &mut World, kind: &CType, number: u32) -> Result<Pointer, Stop>
+pub fn place(tables: &Tables, world: &mut World, kind: &CType, number: u32) -> Result<Pointer, Stop>
     ensures is { (h : List Event) → turn (state_of world.old h) (variable_place (tables_shape tables.now) (type_of kind.now) number) ≡ found result (state_of world.new h) }
     ensures kept { Kept world.old world.new }
     ensures turns { world.new.turns ≤ world.old.turns }

@@ -4,7 +4,7 @@
 pub mod advance;
 mod at_once;
 mod builtins;
-mod direct;
+pub mod direct;
 pub mod frame;
 mod leaf;
 mod number;

@@ -1,15 +1,16 @@
 -- The beginnings of statements.
-use Rattle.std.proofs.Common.{◌≡◌, ℕ, Option, Some, None, ap, ◌∙◌, Box, Vec, Global}
+use Rattle.std.proofs.Common.{◌≡◌, ℕ, Option, Some, None, sym, ap, ◌∙◌, Box, Vec, Global}
 use Rattle.c_syntax.specs.declared.tree.Node.{Node}
 use Rattle.c_syntax.specs.declared.tree.Item.{Item}
 use Rattle.c_syntax.specs.declared.tree.Stmt.{Stmt}
 use Rattle.c_syntax.specs.declared.tree.StmtForm.{StmtForm}
 use Rattle.c_syntax.specs.declared.tree.StmtForm.TheVariants as form
-use Rattle.c_syntax.specs.Shape.{switch, CompoundShape}
+use Rattle.c_syntax.specs.Shape.{NodeShape, MaybeNode, one_node, simply, switch, return, CompoundShape}
 use Rattle.c_syntax.specs.View.{node_shape, stmt_shape, form_shape, item_list}
 use Rattle.c_syntax.specs.Options.{if_form}
 use Rattle.c_syntax.proofs.Open.{if_open, switch_open}
 use Rattle.c_tree.specs.Tables.{TablesShape}
+use Rattle.c_meaning.specs.declared.end.Flow.TheVariants.{Next, Return}
 use Rattle.c_meaning.specs.State.{State}
 use Rattle.c_meaning.specs.Results.{Gives, then_do, present}
 use Rattle.c_meaning.specs.Operators.{is_true}
@@ -19,7 +20,9 @@ use Rattle.c_meaning.specs.Statements.{scoped, scope_opened, scope_closed, form_
 use Rattle.c_eval.specs.Rest.{value}
 use Rattle.c_plan.specs.Parts.{names_ahead, IsBlock}
 use Rattle.c_plan.specs.declared.block.Block.{Block}
-use Rattle.c_flow.specs.Todo.{Leaver, block_flow, chosen_flow, switch_flow}
+use Rattle.c_meaning.proofs.Steps.{then_then}
+use Rattle.c_flow.specs.declared.parts.Use.TheVariants as used
+use Rattle.c_flow.specs.Todo.{Leaver, uses, block_flow, chosen_flow, switch_flow}
 use Rattle.c_flow.proofs.Loops.{on_truth, on_needed}
 use Rattle.c_flow.proofs.Declared.{compound_opens}
 
@@ -48,3 +51,10 @@ pub switch_begins : (t : TablesShape) (k : Knot) (f : StmtForm) (e : Node) (item
 switch_begins t k f e items n s go is =
     let shape : form_shape f ≡ switch (node_shape e) (item_list items.items) = ap form_shape is ∙ switch_open e items in
     rw shape (on_needed (value t k (node_shape e) s) (switch_flow t k (switch (node_shape e) (item_list items.items)) n) go)
+
+-- an expression statement, and a `return` with a value
+pub discards : (t : TablesShape) (k : Knot) (m : MaybeNode) (e : NodeShape) (s : State) (go : Leaver) → m ≡ one_node e → then_do (value t k e s) (uses t k used.Discard go) ≡ then_do (form_flow t k (simply m) (quiet 0) s) go
+discards t k m e s go is = rw is (sym (then_then (value t k e s) (λ v. Gives Next) go))
+
+pub gives_back : (t : TablesShape) (k : Knot) (m : MaybeNode) (e : NodeShape) (s : State) (go : Leaver) → m ≡ one_node e → then_do (value t k e s) (uses t k used.Return go) ≡ then_do (form_flow t k (return m) (quiet 0) s) go
+gives_back t k m e s go is = rw is (on_needed (value t k e s) (λ v. Gives (Return (Some v))) go)

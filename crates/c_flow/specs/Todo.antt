@@ -1,7 +1,7 @@
 -- What a run has still to do.
 use Rattle.std.specs.Prelude.{◌≡◌, ℕ, ◌+◌, ◌*◌, List, [], ◌∷◌, Bool, true, false, Option, Some, None, if◌then◌else◌}
 use Rattle.atac_base.specs.declared.probes.Event.{Event}
-use Rattle.c_syntax.specs.Shape.{StmtShape, FormShape, while, do_while, for, switch, ItemShapes, DeclaratorShapes}
+use Rattle.c_syntax.specs.Shape.{NodeShape, StmtShape, FormShape, while, do_while, for, switch, ItemShapes, DeclaratorShapes}
 use Rattle.c_syntax.specs.View.{node_shape, stmt_shape, form_shape, item_list}
 use Rattle.c_syntax.specs.declared.tree.Named.{Named}
 use Rattle.c_store.specs.declared.value.Value.{Value}
@@ -248,6 +248,11 @@ Leaves a new old go = (p : Program) (s : State) → left_after (tables_shape p.t
 abbrev pub LeavesIn : Program → Step → Machine → World → Machine → World → (TablesShape → Knot → State → Got Flow) → Type 0
 LeavesIn p a new w' old w go =
     (h : List Event) → left_after (tables_shape p.tables) (knot_of p) a new (state_of w' h) ≡ then_do (go (tables_shape p.tables) (knot_of p) (state_of w h)) (behind (tables_shape p.tables) (knot_of p) old)
+
+-- the value of an expression is used
+abbrev pub UsesIn : Program → Step → Machine → World → Machine → World → NodeShape → Use → Type 0
+UsesIn p a new w' old w e u =
+    (h : List Event) → left_after (tables_shape p.tables) (knot_of p) a new (state_of w' h) ≡ then_do (value (tables_shape p.tables) (knot_of p) e (state_of w h)) (uses (tables_shape p.tables) (knot_of p) u (behind (tables_shape p.tables) (knot_of p) old))
 
 -- each scope that waits to be ended is open in the world, and no other
 abbrev pub Tied : Machine → World → Type 0

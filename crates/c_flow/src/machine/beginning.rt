@@ -1,11 +1,11 @@
 ghost use Rattle.std.specs.Prelude.{◌≡◌, ◌+◌, ◌*◌, ◌<◌, ◌≤◌, false, IfOk, OnOk};
-ghost use Rattle.c_syntax.specs.View.{stmt_shape, form_shape, maybe_node, item_list};
+ghost use Rattle.c_syntax.specs.View.{node_shape, stmt_shape, form_shape, maybe_node, item_list};
 ghost use Rattle.c_syntax.specs.Shape.{simply, return};
 ghost use Rattle.c_meaning.specs.Firsts.{quiet};
 ghost use Rattle.c_meaning.specs.Results.{turn, then_do};
 ghost use Rattle.c_meaning.specs.Statements.{scoped, flow, form_flow};
 ghost use Rattle.c_plan.specs.Parts.{names_ahead};
-ghost use Rattle.c_flow.specs.Todo.{again_flow, loop_of, block_flow, Leaves, LeavesIn, Tied, OnMore, open_scopes, all_weights, machine_size};
+ghost use Rattle.c_flow.specs.Todo.{again_flow, loop_of, block_flow, LeavesIn, UsesIn, Tied, OnMore, open_scopes, all_weights, machine_size};
 ghost use Rattle.c_world.specs.World.{Same};
 
 use super::Machine;
@@ -13,6 +13,9 @@ use super::leaving::untyped;
 use crate::marks::log_marks;
 use crate::parts::{Purpose, Step, Use, Waiting};
 use atac_base::place::NoMemory;
+use c_compute::operators::is_true;
+use c_eval::direct::direct;
+use c_eval::frame::Reply;
 use c_meaning::end::{Flow, Stop};
 use c_plan::block::Block;
 use c_plan::placed::Placed;
@@ -85,12 +88,10 @@ impl<'p> Machine<'p> {
                 let step = self.compound(plan, world, block)?;
                 Ok(step)
             }
-            StmtForm::Plain(node) => Ok(self.plain(node)),
-            StmtForm::If(test, _, _) => {
-                Ok(self.work_at(test, Use::Stmt(Purpose::Choose, placed)))
-            }
+            StmtForm::Plain(node) => Ok(self.plain(plan, world, node)),
+            StmtForm::If(test, _, _) => Ok(self.choice(plan, world, test, placed)),
             StmtForm::While(_, _) => {
-                let step = self.again(placed)?;
+                let step = self.again(plan, world, placed)?;
                 Ok(step)
             }
             StmtForm::Do(_, _) => {
@@ -98,7 +99,7 @@ impl<'p> Machine<'p> {
                 Ok(step)
             }
             StmtForm::For(first, _, _, _) => {
-                let step = self.begin_for(first, placed)?;
+                let step = self.begin_for(plan, world, first, placed)?;
                 Ok(step)
             }
             StmtForm::Switch(chosen, _) => {
@@ -106,7 +107,7 @@ impl<'p> Machine<'p> {
             }
             StmtForm::Break => Ok(self.leave(Flow::Break)),
             StmtForm::Continue => Ok(self.leave(Flow::Continue)),
-            StmtForm::Return(node) => Ok(self.give(node)),
+            StmtForm::Return(node) => Ok(self.give(plan, world, node)),
         }
     }
 
@@ -132,43 +133,92 @@ impl<'p> Machine<'p> {
 
     // An expression statement (C89, 3.6.3).
     #[inline(always)]
-    fn plain(&mut self, node: &'p Option<Node>) -> Step
-        ensures left { Leaves result self.new self.old (λ t k. form_flow t k (simply (maybe_node node.now)) (quiet 0)) }
-        ensures scopes { open_scopes self.new.waiting.items ≡ open_scopes self.old.waiting.items }
-        ensures size { OnMore result (machine_size self.new ≤ 1 + all_weights self.old.waiting.items) }
+    fn plain(&mut self, plan: &'p Plan<'p>, world: &mut World<'p>, node: &'p Option<Node>) -> Step
+        requires program { world.old.program.now ≡ plan.now.program.now }
+        requires tied { Tied self.old world.old }
+        ensures left { LeavesIn plan.now.program.now result self.new world.new self.old world.old (λ t k. form_flow t k (simply (maybe_node node.now)) (quiet 0)) }
+        ensures tied { OnMore result (Tied self.new world.new) }
+        ensures size { OnMore result (12 * world.new.turns + machine_size self.new ≤ 12 * world.old.turns + 1 + all_weights self.old.waiting.items) }
+        ensures same { Same world.old world.new }
     {
         match node {
             None => self.leave(Flow::Next),
-            Some(node) => self.work_at(node, Use::Discard),
+            Some(node) => match direct(world.tables(), world, node) {
+                None => self.work_at(node, Use::Discard),
+                Some(Reply::Stopped(why)) => Step::Stopped(why),
+                Some(Reply::Value(_)) => self.leave(Flow::Next),
+            },
+        }
+    }
+
+    // The test of an `if` (C89, 3.6.4.1).
+    #[inline(always)]
+    fn choice(
+        &mut self,
+        plan: &'p Plan<'p>,
+        world: &mut World<'p>,
+        test: &'p Node,
+        placed: Placed<'p>,
+    ) -> Step
+        requires program { world.old.program.now ≡ plan.now.program.now }
+        requires tied { Tied self.old world.old }
+        ensures left { UsesIn plan.now.program.now result self.new world.new self.old world.old (node_shape test.now) (Use.Stmt Purpose.Choose placed.entry) }
+        ensures tied { OnMore result (Tied self.new world.new) }
+        ensures size { OnMore result (12 * world.new.turns + machine_size self.new ≤ 12 * world.old.turns + 1 + all_weights self.old.waiting.items) }
+        ensures same { Same world.old world.new }
+    {
+        match direct(world.tables(), world, test) {
+            None => self.work_at(test, Use::Stmt(Purpose::Choose, placed)),
+            Some(Reply::Stopped(why)) => Step::Stopped(why),
+            Some(Reply::Value(value)) => self.choose(placed, is_true(value)),
         }
     }
 
     // A `for` (C89, 3.6.5.3): its first part, and then the loop.
     #[inline(always)]
-    fn begin_for(&mut self, first: &'p Option<Node>, placed: Placed<'p>) -> Result<Step, NoMemory>
-        ensures left { IfOk result (λ a. Leaves a self.new self.old (λ t k s. then_do (form_flow t k (simply (maybe_node first.now)) (quiet 0) s) (λ f. again_flow t k (loop_of t (form_shape placed.entry.stmt.now.form) placed.entry.before)))) }
-        ensures scopes { IfOk result (λ a. open_scopes self.new.waiting.items ≡ open_scopes self.old.waiting.items) }
-        ensures size { IfOk result (λ a. OnMore a (machine_size self.new ≤ 1 + all_weights self.old.waiting.items)) }
+    fn begin_for(
+        &mut self,
+        plan: &'p Plan<'p>,
+        world: &mut World<'p>,
+        first: &'p Option<Node>,
+        placed: Placed<'p>,
+    ) -> Result<Step, NoMemory>
+        requires program { world.old.program.now ≡ plan.now.program.now }
+        requires tied { Tied self.old world.old }
+        ensures left { IfOk result (λ a. LeavesIn plan.now.program.now a self.new world.new self.old world.old (λ t k s. then_do (form_flow t k (simply (maybe_node first.now)) (quiet 0) s) (λ f. again_flow t k (loop_of t (form_shape placed.entry.stmt.now.form) placed.entry.before)))) }
+        ensures tied { IfOk result (λ a. OnMore a (Tied self.new world.new)) }
+        ensures size { IfOk result (λ a. OnMore a (12 * world.new.turns + machine_size self.new ≤ 12 * world.old.turns + 1 + all_weights self.old.waiting.items)) }
+        ensures same { OnOk result (Same world.old world.new) }
     {
         match first {
             None => {
-                let step = self.again(placed)?;
+                let step = self.again(plan, world, placed)?;
                 Ok(step)
             }
-            Some(node) => Ok(self.work_at(node, Use::Stmt(Purpose::Again, placed))),
+            Some(node) => {
+                let step = self.then_again(plan, world, node, placed)?;
+                Ok(step)
+            }
         }
     }
 
     // A `return` (C89, 3.6.6.4).
     #[inline(always)]
-    fn give(&mut self, node: &'p Option<Node>) -> Step
-        ensures left { Leaves result self.new self.old (λ t k. form_flow t k (return (maybe_node node.now)) (quiet 0)) }
-        ensures scopes { open_scopes self.new.waiting.items ≡ open_scopes self.old.waiting.items }
-        ensures size { OnMore result (machine_size self.new ≤ 1 + all_weights self.old.waiting.items) }
+    fn give(&mut self, plan: &'p Plan<'p>, world: &mut World<'p>, node: &'p Option<Node>) -> Step
+        requires program { world.old.program.now ≡ plan.now.program.now }
+        requires tied { Tied self.old world.old }
+        ensures left { LeavesIn plan.now.program.now result self.new world.new self.old world.old (λ t k. form_flow t k (return (maybe_node node.now)) (quiet 0)) }
+        ensures tied { OnMore result (Tied self.new world.new) }
+        ensures size { OnMore result (12 * world.new.turns + machine_size self.new ≤ 12 * world.old.turns + 1 + all_weights self.old.waiting.items) }
+        ensures same { Same world.old world.new }
     {
         match node {
             None => self.leave(Flow::Return(None)),
-            Some(node) => self.work_at(node, Use::Return),
+            Some(node) => match direct(world.tables(), world, node) {
+                None => self.work_at(node, Use::Return),
+                Some(Reply::Stopped(why)) => Step::Stopped(why),
+                Some(Reply::Value(value)) => self.leave(Flow::Return(Some(value))),
+            },
         }
     }
 }

@@ -6,7 +6,7 @@ ghost use Rattle.c_meaning.specs.Results.{then_do};
 ghost use Rattle.c_world.specs.Names.{scope_counts};
 ghost use Rattle.c_world.specs.World.{state_of, Same};
 ghost use Rattle.c_eval.specs.Rest.{rest_after, size_after, Lower};
-ghost use Rattle.c_flow.specs.Todo.{scopes_with, stmt_flow, use_flow, uses, waits, behind, knot_of, left_in, left_after, Leaves, Tied, OnMore, open_scopes, weight, all_weights, machine_size};
+ghost use Rattle.c_flow.specs.Todo.{scopes_with, stmt_flow, use_flow, uses, waits, behind, knot_of, left_in, left_after, LeavesIn, Tied, OnMore, open_scopes, weight, all_weights, machine_size};
 
 use super::Machine;
 use super::leaving::untyped;
@@ -102,7 +102,7 @@ impl<'p> Machine<'p> {
                 Some(value) => Ok(self.leave(Flow::Return(Some(value)))),
             },
             Use::Stmt(purpose, placed) => {
-                let step = self.take_stmt(purpose, placed, value)?;
+                let step = self.take_stmt(plan, world, purpose, placed, value)?;
                 Ok(step)
             }
             Use::Init(instance, variable, name) => match value {
@@ -119,17 +119,22 @@ impl<'p> Machine<'p> {
     #[inline(always)]
     fn take_stmt(
         &mut self,
+        plan: &'p Plan<'p>,
+        world: &mut World<'p>,
         purpose: Purpose,
         placed: Placed<'p>,
         value: Option<Value>,
     ) -> Result<Step, NoMemory>
-        ensures left { IfOk result (λ a. Leaves a self.new self.old (λ t k. stmt_flow t k purpose (form_shape placed.entry.stmt.now.form) placed.entry.before value)) }
-        ensures scopes { IfOk result (λ a. open_scopes self.new.waiting.items ≡ open_scopes self.old.waiting.items) }
-        ensures size { IfOk result (λ a. OnMore a (machine_size self.new ≤ 2 + all_weights self.old.waiting.items)) }
+        requires program { world.old.program.now ≡ plan.now.program.now }
+        requires tied { Tied self.old world.old }
+        ensures left { IfOk result (λ a. LeavesIn plan.now.program.now a self.new world.new self.old world.old (λ t k. stmt_flow t k purpose (form_shape placed.entry.stmt.now.form) placed.entry.before value)) }
+        ensures tied { IfOk result (λ a. OnMore a (Tied self.new world.new)) }
+        ensures size { IfOk result (λ a. OnMore a (12 * world.new.turns + machine_size self.new ≤ 12 * world.old.turns + 2 + all_weights self.old.waiting.items)) }
+        ensures same { OnOk result (Same world.old world.new) }
     {
         match purpose {
             Purpose::Again => {
-                let step = self.again(placed)?;
+                let step = self.again(plan, world, placed)?;
                 Ok(step)
             }
             Purpose::Choose => match value {
@@ -198,7 +203,7 @@ impl<'p> Machine<'p> {
                 Ok(step)
             }
             Waiting::Loop(placed) => {
-                let step = self.leave_body(placed, flow)?;
+                let step = self.leave_body(plan, world, placed, flow)?;
                 Ok(step)
             }
             Waiting::Scope => {

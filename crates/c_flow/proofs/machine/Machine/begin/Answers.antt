@@ -22,11 +22,11 @@ returns-in_ok-step-in-Compound-clause-left c = λ h.
 pub returns-in-If-clause-left : goal.returns-in-If-clause-left
 returns-in-If-clause-left c = λ h.
     let p = c.args.plan.now.program.now in
-    c.work_at.ensures.left (tables_shape p.tables) (knot_of p) (state_of c.args.world.now h)
+    c.choice.ensures.left h
     ∙ if_opens (tables_shape p.tables) (knot_of p) c.args.placed.stmt.now.form c.in-If.test c.in-If.field-1 c.in-If.field-2 c.args.placed.before (state_of c.args.world.now h) (behind (tables_shape p.tables) (knot_of p) c.args.self.now) c.in-If.is
 
 pub returns-in-Switch-clause-left : goal.returns-in-Switch-clause-left
 returns-in-Switch-clause-left c = λ h.
     let p = c.args.plan.now.program.now in
-    c.work_at-in-Switch.ensures.left (tables_shape p.tables) (knot_of p) (state_of c.args.world.now h)
+    c.work_at.ensures.left (tables_shape p.tables) (knot_of p) (state_of c.args.world.now h)
     ∙ switch_begins (tables_shape p.tables) (knot_of p) c.args.placed.stmt.now.form c.in-Switch.chosen c.in-Switch.field-1 c.args.placed.before (state_of c.args.world.now h) (behind (tables_shape p.tables) (knot_of p) c.args.self.now) c.in-Switch.is
