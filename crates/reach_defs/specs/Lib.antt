@@ -1,0 +1,5 @@
+pub mod Paths
+pub mod Held
+pub mod Work
+pub mod Listing
+pub mod Passing
