@@ -2,7 +2,7 @@ int main(void)
 {
     int i = 0;
     int j = 0;
-    while (i < 100000000) {
+    while (i < 5000000) {
         j = j < i;
         i = i + 1;
     }

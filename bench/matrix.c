@@ -8,7 +8,7 @@ int main(void)
             a[i][j] = i + j;
             b[i][j] = i - j;
         }
-    for (turn = 0; turn < 40; turn++)
+    for (turn = 0; turn < 20; turn++)
         for (i = 0; i < 60; i++)
             for (j = 0; j < 60; j++) {
                 sum = 0;

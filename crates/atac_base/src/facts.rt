@@ -1,8 +1,10 @@
+//! What runs have shown, as a set.
+
 ghost use Rattle.std.specs.Prelude.{◌≡◌, ◌≢◌, OnOk, OnErr, true, false};
 ghost use Rattle.atac_base.specs.Facts.{holds};
 ghost use Rattle.atac_base.specs.declared.facts.Fact.{Fact};
 
-use crate::place::NoMemory;
+use c_base::place::NoMemory;
 use std::alloc::Global;
 use std::marker::Model;
 
@@ -48,13 +50,9 @@ impl Facts {
             self.blocks[k] = true;
             return Ok(());
         }
-        if self.blocks.resize(k, false).is_err() {
-            return Err(NoMemory);
-        }
-        match self.blocks.push(true) {
-            Ok(()) => Ok(()),
-            Err(_) => Err(NoMemory),
-        }
+        self.blocks.resize(k, false)?;
+        self.blocks.push(true)?;
+        Ok(())
     }
 
     /// Whether the fact is in the set.

@@ -5,5 +5,8 @@ pub mod facts;
 pub mod items;
 pub mod memory;
 pub mod outside;
-pub mod place;
 pub mod probes;
+pub mod rows;
+
+pub use c_base::{labels, numbers, place};
+pub use c_events::events;

@@ -1,6 +1,8 @@
-ghost use Rattle.std.specs.Prelude.{◌≡◌, ◌≢◌, ◌≤◌, List, [], ℕ, Some, None, true, OnOk, IsErrOf, OnErr};
+//! Shelves and sinks in memory.
+
+ghost use Rattle.std.specs.Prelude.{◌≡◌, ◌≢◌, ◌≤◌, ◌↔◌, ◌++◌, List, [], ℕ, Some, None, true, OnOk, IsErrOf, OnErr};
 ghost use Rattle.std.specs.BTreeMap.{IsEmpty};
-ghost use Rattle.atac_base.specs.Outside.{said_by, empty_shelf, empty_sink, Fetches};
+ghost use Rattle.atac_base.specs.Outside.{said_by, empty_shelf, empty_sink, Fetches, Counts, IsFront};
 
 use crate::outside::{FetchErr, Fetched, KeepErr, PutErr, Shelf, Sink};
 use std::alloc::Global;
@@ -46,7 +48,7 @@ fn keep_in(alloc: Global, files: &mut Files, name: &str, bytes: &[u8]) -> Result
     }
 }
 
-/// A shelf in memory, whose fetches and keeps with the listed numbers fail. They are counted from 1.
+/// A shelf in memory, whose fetches and keeps with the listed numbers fail. They are counted from 1, each kind by itself.
 #[derive(Drop)]
 pub struct MemoryShelf {
     alloc: Global,
@@ -60,8 +62,13 @@ pub struct MemoryShelf {
 }
 
 impl MemoryShelf {
+    ghost use Rattle.atac_base.specs.Memory.{fetches_of, keeps_of};
+
+    /// A shelf that holds no name.
     pub fn new(alloc: Global, fail_fetch: Vec<u64>, fail_keep: Vec<u64>) -> MemoryShelf
-        ensures { ⟦<MemoryShelf as Shelf>⟧.state result ≡ empty_shelf }
+        ensures state { ⟦<MemoryShelf as Shelf>⟧.state result ≡ empty_shelf }
+        ensures fetches { fetches_of result ≡ record { made = 0; failing = fail_fetch.items } }
+        ensures keeps { keeps_of result ≡ record { made = 0; failing = fail_keep.items } }
     {
         MemoryShelf {
             alloc,
@@ -77,9 +84,19 @@ impl MemoryShelf {
 }
 
 impl Shelf for MemoryShelf {
+    ghost use Rattle.atac_base.specs.Memory.{fetches_of, keeps_of, with_one_more, IsListed};
+
     ghost state = { λ shelf. record { tells = true; says = said_by shelf.files; read_faults = shelf.read_faults; keep_faults = shelf.keep_faults } };
 
-    fn fetch(&mut self, name: &str, most: u64, into: &mut Vec<u8>) -> Result<Fetched, FetchErr> {
+    fn fetch(&mut self, name: &str, most: u64, into: &mut Vec<u8>) -> Result<Fetched, FetchErr>
+        ensures found { Fetches (said_by self.old.files name.now) most result into.new.items }
+        ensures files { self.new.files ≡ self.old.files }
+        ensures read_faults { Counts self.old.read_faults self.new.read_faults (IsErrOf result FetchErr.Failed) }
+        ensures keep_faults { self.new.keep_faults ≡ self.old.keep_faults }
+        ensures fetches { fetches_of self.new ≡ with_one_more (fetches_of self.old) }
+        ensures keeps { keeps_of self.new ≡ keeps_of self.old }
+        ensures failed { IsErrOf result FetchErr.Failed ↔ IsListed (fetches_of self.new) }
+    {
         self.fetches = self.fetches.saturating_add(1);
         if self.fail_fetch.contains(&self.fetches) {
             into.clear();
@@ -89,7 +106,15 @@ impl Shelf for MemoryShelf {
         fetch_from(&self.files, name, most, into)
     }
 
-    fn keep(&mut self, name: &str, bytes: &[u8]) -> Result<(), KeepErr> {
+    fn keep(&mut self, name: &str, bytes: &[u8]) -> Result<(), KeepErr>
+        ensures kept { OnOk result (said_by self.new.files name.now ≡ Some (Some bytes.now)) }
+        ensures others { (other : List ℕ) → other ≢ name.now → said_by self.new.files other ≡ said_by self.old.files other }
+        ensures read_faults { self.new.read_faults ≡ self.old.read_faults }
+        ensures keep_faults { Counts self.old.keep_faults self.new.keep_faults (IsErrOf result KeepErr.Failed) }
+        ensures fetches { fetches_of self.new ≡ fetches_of self.old }
+        ensures keeps { keeps_of self.new ≡ with_one_more (keeps_of self.old) }
+        ensures failed { IsErrOf result KeepErr.Failed ↔ IsListed (keeps_of self.new) }
+    {
         self.keeps = self.keeps.saturating_add(1);
         if self.fail_keep.contains(&self.keeps) {
             self.keep_faults = self.keep_faults.saturating_add(1);
@@ -107,6 +132,7 @@ pub struct FirmShelf {
 }
 
 impl FirmShelf {
+    /// A shelf that holds no name.
     pub fn new(alloc: Global) -> FirmShelf
         ensures { ⟦<FirmShelf as Shelf>⟧.state result ≡ empty_shelf }
     {
@@ -140,8 +166,12 @@ pub struct MemorySink {
 }
 
 impl MemorySink {
+    ghost use Rattle.atac_base.specs.Memory.{puts_of};
+
+    /// A sink without a byte.
     pub fn new(alloc: Global, fail: Vec<u64>) -> MemorySink
-        ensures { ⟦<MemorySink as Sink>⟧.state result ≡ empty_sink }
+        ensures state { ⟦<MemorySink as Sink>⟧.state result ≡ empty_sink }
+        ensures puts { puts_of result ≡ record { made = 0; failing = fail.items } }
     {
         MemorySink {
             bytes: Vec::new(alloc),
@@ -152,6 +182,7 @@ impl MemorySink {
         }
     }
 
+    /// The bytes so far.
     pub fn bytes(&self) -> &[u8]
         ensures { (⟦<MemorySink as Sink>⟧.state self.now).bytes ≡ Some result.now }
     {
@@ -160,9 +191,18 @@ impl MemorySink {
 }
 
 impl Sink for MemorySink {
+    ghost use Rattle.atac_base.specs.Memory.{puts_of, with_one_more, IsListed};
+
     ghost state = { λ sink. record { bytes = Some sink.bytes.items; faults = sink.faults; wants = sink.wants } };
 
-    fn put(&mut self, piece: &[u8]) -> Result<(), PutErr> {
+    fn put(&mut self, piece: &[u8]) -> Result<(), PutErr>
+        ensures whole { OnOk result (self.new.bytes.items ≡ self.old.bytes.items ++ piece.now) }
+        ensures front { OnErr result ((front : List ℕ) × IsFront front piece.now × (self.new.bytes.items ≡ self.old.bytes.items ++ front)) }
+        ensures faults { Counts self.old.faults self.new.faults (IsErrOf result PutErr.Failed) }
+        ensures wants { Counts self.old.wants self.new.wants (IsErrOf result PutErr.NoMemory) }
+        ensures puts { puts_of self.new ≡ with_one_more (puts_of self.old) }
+        ensures failed { IsErrOf result PutErr.Failed ↔ IsListed (puts_of self.new) }
+    {
         self.puts = self.puts.saturating_add(1);
         if self.fail.contains(&self.puts) {
             self.faults = self.faults.saturating_add(1);
@@ -186,6 +226,7 @@ pub struct FirmSink {
 }
 
 impl FirmSink {
+    /// A sink without a byte.
     pub fn new(alloc: Global) -> FirmSink
         ensures { ⟦<FirmSink as Sink>⟧.state result ≡ empty_sink }
     {
@@ -195,6 +236,7 @@ impl FirmSink {
         }
     }
 
+    /// The bytes so far.
     pub fn bytes(&self) -> &[u8]
         ensures { (⟦<FirmSink as Sink>⟧.state self.now).bytes ≡ Some result.now }
     {

@@ -1,3 +1,5 @@
+//! The outside of a call: shelves that hold bytes under names, and sinks that take bytes.
+
 ghost use Rattle.std.specs.Prelude.{◌≡◌, ◌≢◌, ◌≤◌, List, ℕ, IsTrue, Some, OnOk, OnErr, IsErrOf};
 ghost use Rattle.std.specs.Io.KnownBytes.{append_known};
 ghost use Rattle.atac_base.specs.Outside.{ShelfState, SinkState, Counts, Fetches, IsFront};

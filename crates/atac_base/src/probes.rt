@@ -1,18 +1,11 @@
-ghost use Rattle.std.specs.Prelude.{◌≡◌, List, [], ◌∷◌, ◌++◌, OnOk, OnErr};
-ghost use Rattle.atac_base.specs.declared.probes.Event.{Event};
+//! What sees the events of a run.
 
-use crate::place::{Cell, NoMemory};
+ghost use Rattle.std.specs.Prelude.{◌≡◌, List, [], ◌∷◌, ◌++◌, OnOk, OnErr, IsOk};
+ghost use Rattle.c_events.specs.declared.events.Event.{Event};
+
+use c_base::place::NoMemory;
+use c_events::events::Event;
 use std::alloc::Global;
-
-/// What a run tells: a block is entered; a definition site writes a cell; a use site reads a cell in an
-/// activation; a decision ends with an outcome in an activation. Sites are numbered from 1.
-#[derive(Clone, Copy, Debug, PartialEq, Eq)]
-pub enum Event {
-    Block(u16),
-    Def(u16, Cell),
-    Use(u16, Cell, u64),
-    Test(u16, u32, u64),
-}
 
 /// What sees the events of a run. It stands for the lists of events that its test holds of.
 pub trait Probes {
@@ -52,10 +45,8 @@ impl Probes for EventList {
     ghost stands_for = { λ s h. s.events.items ≡ h };
 
     fn see(&mut self, event: Event) -> Result<(), NoMemory> {
-        match self.events.push(event) {
-            Ok(()) => Ok(()),
-            Err(_) => Err(NoMemory),
-        }
+        self.events.push(event)?;
+        Ok(())
     }
 }
 
@@ -66,7 +57,11 @@ pub struct Deaf;
 impl Probes for Deaf {
     ghost stands_for = { λ s h. Unit {0} };
 
-    fn see(&mut self, event: Event) -> Result<(), NoMemory> {
+    fn see(&mut self, event: Event) -> Result<(), NoMemory>
+        ensures ok { IsOk result }
+        ensures seen { OnOk result ((h : List Event) → Unit {0} → Unit {0}) }
+        ensures kept { OnErr result ((h : List Event) → Unit {0} → Unit {0}) }
+    {
         Ok(())
     }
 }

@@ -1,3 +1,5 @@
+//! The files of the machine as a shelf, and the standard streams as sinks.
+
 ghost use Rattle.std.specs.Prelude.{◌≡◌, ◌≤◌, false, None};
 ghost use Rattle.atac_cli.specs.Real.{ReadsUpTo};
 

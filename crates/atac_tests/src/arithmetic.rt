@@ -1,5 +1,7 @@
-use atac_base::place::IntKind;
+//! Worked values of the arithmetic.
+
 use c_arith::{ArithBinary, ArithFault, ArithUnary, binary, convert, unary};
+use c_base::place::IntKind;
 
 #[test]
 fn gives_the_worked_values(rt: HostRuntime) {

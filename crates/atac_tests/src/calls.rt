@@ -1,3 +1,5 @@
+//! Calls of the commands over shelves and sinks in memory.
+
 use atac_base::memory::{MemoryShelf, MemorySink};
 use atac_base::outside::Shelf;
 use atac_top::status::Status;

@@ -1,12 +1,14 @@
-use atac_base::place::Cell;
-use atac_base::probes::{Event, EventList};
-use c_front::front::read;
+//! The events that the probes of a loop are told.
+
+use atac_base::probes::EventList;
+use c_events::events::{Cell, Event};
+use c_front::read;
 use c_lex::TextKind;
-use c_machine::run::run;
+use c_machine::run;
 use c_meaning::end::End;
-use c_sites::sites::sites;
+use c_sites::sites;
 use c_tree::program::Program;
-use probe_unit::program::instrument;
+use probe_in::instrument;
 use std::alloc::Global;
 use std::test::Fail;
 

@@ -8,6 +8,14 @@ mod calls;
 #[cfg(test)]
 mod events;
 #[cfg(test)]
+mod lexer;
+#[cfg(test)]
+mod pieces;
+#[cfg(test)]
+mod scopes;
+#[cfg(test)]
 mod store;
+#[cfg(test)]
+mod tables;
 #[cfg(test)]
 mod tests;

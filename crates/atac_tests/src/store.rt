@@ -1,3 +1,5 @@
+//! Worked steps of the store.
+
 use c_store::store::Store;
 use c_store::value::{Fault, MakeErr, Order, Pointer, Value};
 use std::test::Fail;

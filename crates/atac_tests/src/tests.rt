@@ -1,3 +1,5 @@
+//! Calls whose fetches and puts fail.
+
 use crate::calls::{Fails, NONE, check, cover};
 use atac_top::status::Status;
 use std::test::Fail;

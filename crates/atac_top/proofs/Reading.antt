@@ -1,9 +1,9 @@
 -- What was understood of a text, by what the code answered.
 use Rattle.std.proofs.Common.{◌≡◌, sym, ◌∙◌, subst, List, [], ℕ, Option, None, Some}
 use Rattle.std.specs.Prelude.{string_bytes}
-use Rattle.atac_base.specs.declared.place.Pos.{Pos}
+use Rattle.c_base.specs.declared.place.Pos.{Pos}
 use Rattle.c_lex.specs.declared.lexer.TextKind.{TextKind}
-use Rattle.c_routines.specs.Routines.{source_of}
+use Rattle.c_meaning.specs.Sources.{source_of}
 use Rattle.c_front.specs.declared.front.FrontRefusal.{FrontRefusal}
 use Rattle.c_front.specs.declared.front.FrontRefusal.TheVariants.{At}
 use Rattle.c_front.specs.Front as front
@@ -17,8 +17,8 @@ use Rattle.atac_top.specs.Understanding.{HasSites, CheckedAs, CoveredAs, ReadAs,
 use Rattle.atac_top.specs.declared.checking.Checking.{Checking}
 use Rattle.atac_top.specs.declared.checking.Checking.TheVariants as checking
 use Rattle.c_sites.specs.declared.numbered.Sites.{Sites}
-use Rattle.c_sites.specs.declared.sites.SiteRefusal.{SiteRefusal}
-use Rattle.c_sites.specs.declared.sites.SiteRefusal.TheVariants as site
+use Rattle.c_sites.specs.declared.all_sites.SiteRefusal.{SiteRefusal}
+use Rattle.c_sites.specs.declared.all_sites.SiteRefusal.TheVariants as site
 use Rattle.c_sites.specs.Refused as sites
 use Rattle.c_tree.specs.declared.program.Program.{Program}
 

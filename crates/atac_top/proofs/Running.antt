@@ -1,20 +1,20 @@
 -- The run of the program with its probes, as the program's own.
 use Rattle.std.proofs.Common.{◌≡◌, sym, ap, ◌∙◌, List, [], ◌∷◌, ◌++◌, ◌+◌, ℕ, zero, suc, Bool, Some, slice_get, take, add-one}
-use Rattle.atac_base.specs.declared.place.Pos.{Pos}
-use Rattle.atac_base.specs.declared.probes.Event.{Event}
+use Rattle.c_base.specs.declared.place.Pos.{Pos}
+use Rattle.c_events.specs.declared.events.Event.{Event}
 use Rattle.c_meaning.specs.declared.end.RunEnd.{RunEnd}
 use Rattle.c_meaning.specs.Calls.{Source}
 use Rattle.c_meaning.specs.Deeds.{told}
 use Rattle.c_meaning.specs.Runs.{Outcome, run, run_heard}
 use Rattle.c_meaning.proofs.QuietCalls.{run_is_quiet}
-use Rattle.c_routines.specs.Routines.{source_of}
+use Rattle.c_meaning.specs.Sources.{source_of}
 use Rattle.c_machine.specs.Run.{outcome_of}
-use Rattle.probe_in.specs.Simulation.{as_logged}
+use Rattle.probe_rules.specs.Simulation.{as_logged}
 use Rattle.cover_core.specs.Covered.{covers}
 use Rattle.cover_report.specs.Texts.{report_text}
-use Rattle.cover_report.proofs.Lines.{report_same}
+use Rattle.cover_report.proofs.BlockLines.{report_same}
 use Rattle.atac_top.specs.Sections.{section_text}
-use Rattle.atac_top.specs.Programs.{block_places, section, report}
+use Rattle.atac_top.specs.Programs.{block_places, block_items, section, report}
 use Rattle.atac_top.specs.Understanding.{Holds}
 use Rattle.atac_top.specs.declared.program.Understood.{Understood}
 
@@ -31,7 +31,7 @@ module _ (P : Source) (u : Understood) (input : List ℕ) (limit : ℕ) (r : Run
   pub same_report : (marks : ℕ → Bool) → ((k : ℕ) → marks k ≡ covers log k) → report_text u.items marks ≡ report P input limit
   same_report marks marked =
       report_same marks (covers (told (run_heard P input limit).deeds)) (λ k. marked k ∙ same_covers k) u.items
-      ∙ ap (λ (bs : List _). report_text (record { blocks = bs }) (covers (told (run_heard P input limit).deeds))) h.blocks_are
+      ∙ ap (λ (bs : List _). report_text (block_items bs) (covers (told (run_heard P input limit).deeds))) h.blocks_are
 
 -- one more block
 pub take_at : (ps : List Pos) (k j : ℕ) (p : Pos) → slice_get ps j ≡ Some p → j ≡ k → take k ps ++ p ∷ [] ≡ take (k + 1) ps

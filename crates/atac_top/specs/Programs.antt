@@ -1,14 +1,15 @@
 -- What is understood of a program's text, and the texts of its run on an input.
-use Rattle.std.specs.Prelude.{◌≡◌, ℕ, List, ◌∷◌, ◌++◌, length, codes, Some, None}
+use Rattle.std.specs.Prelude.{◌≡◌, ℕ, List, [], ◌∷◌, ◌++◌, length, codes, Some, None}
 use Rattle.std.specs.Fmt.{decimal}
-use Rattle.atac_base.specs.declared.place.Pos.{Pos}
+use Rattle.c_base.specs.declared.place.Pos.{Pos}
+use Rattle.atac_base.specs.Items.{ItemLists}
 use Rattle.c_syntax.specs.Shape as full
-use Rattle.c_tree.specs.Tables.{TablesShape}
+use Rattle.c_tables.specs.Tables.{TablesShape}
 use Rattle.c_lex.specs.declared.lexer.TextKind.TheVariants.{Plain, Probed}
 use Rattle.c_front.specs.Front as front
 use Rattle.c_front.specs.Names.{name}
-use Rattle.c_items.specs.Items.{Item}
-use Rattle.c_items.specs.Units.{items_of}
+use Rattle.c_walk.specs.Items.{Item}
+use Rattle.c_walk.specs.Units.{items_of}
 use Rattle.c_sites.specs.Kinds.{blocks}
 use Rattle.c_sites.specs.Lists.{Lists, lists_of}
 use Rattle.c_sites.specs.Numbers.{names_of}
@@ -110,6 +111,10 @@ section input P bytes limit = section_text input (run P bytes limit)
 abbrev pub block_places : Source → List Pos
 block_places P = blocks (items_of P.tables P.unit)
 
+-- blocks alone, as items
+abbrev pub block_items : List Pos → ItemLists
+block_items places = record { blocks = places; outcomes = []; c_uses = []; p_uses = []; names = [] }
+
 -- The report: a block is covered where its event is among those that are told of the program's own run.
 abbrev pub report : Source → List ℕ → ℕ → List ℕ
-report P bytes limit = report_text (record { blocks = block_places P }) (covers (told (run_heard P bytes limit).deeds))
+report P bytes limit = report_text (block_items (block_places P)) (covers (told (run_heard P bytes limit).deeds))

@@ -1,13 +1,13 @@
 -- What the code holds of a program that it understands.
 use Rattle.std.specs.Prelude.{◌≡◌, ℕ, List, string_bytes}
 use Rattle.c_tree.specs.declared.program.Program as whole
-use Rattle.c_routines.specs.Routines.{source_of}
-use Rattle.c_items.specs.Units.{items_of}
+use Rattle.c_meaning.specs.Sources.{source_of}
+use Rattle.c_walk.specs.Units.{items_of}
 use Rattle.c_sites.specs.ListsView.{lists_shape}
 use Rattle.c_sites.specs.declared.numbered.Sites.{Sites}
 use Rattle.c_sites.specs.Refused.{AreSites}
 use Rattle.c_meaning.specs.Calls.{Source}
-use Rattle.probe_in.specs.Simulation.{Simulates}
+use Rattle.probe_rules.specs.Simulation.{Simulates}
 use Rattle.atac_top.specs.Programs.{IsAccepted, IsProbed, Rejection, Unread, program_in, lists_in, block_places}
 use Rattle.atac_top.specs.declared.checking.Checking.{Checking}
 use Rattle.atac_top.specs.declared.checking.Checking.TheVariants as checking

@@ -22,7 +22,7 @@ abbrev pub turn_limit : ℕ
 turn_limit = 1000000
 
 abbrev pub turns_most : ℕ
-turns_most = 2000000
+turns_most = 100000000
 
 -- A word that is the decimal text of a number of turns, with no zero in front.
 abbrev pub is_limit : List ℕ → ℕ → Bool

@@ -5,12 +5,11 @@ ghost use Rattle.atac_top.specs.Programs.{refusal_text, counts_in, counts_text};
 ghost use Rattle.atac_top.specs.Understanding.{CheckedAs};
 ghost use Rattle.c_sites.specs.ListsView.{lists_shape};
 
-use atac_base::place::{NoMemory, Pos};
-use c_front::front::{FrontRefusal, read};
+use c_base::place::{NoMemory, Pos};
 use c_front::names::name_of;
+use c_front::{FrontRefusal, read};
 use c_lex::TextKind;
-use c_sites::numbered::Sites;
-use c_sites::sites::{SiteRefusal, sites};
+use c_sites::{SiteRefusal, Sites, sites};
 use c_tree::program::Program;
 use std::alloc::Global;
 

@@ -1,3 +1,5 @@
+//! What each command fetches, does and puts.
+
 ghost use Rattle.std.specs.Prelude.{◌≤◌, Some};
 ghost use Rattle.atac_top.specs.Words.{Check, Cover, Run};
 ghost use Rattle.atac_top.specs.Stops.{command_of, ended, IsFew};
@@ -48,7 +50,7 @@ fn cover<'a, S: Shelf, W: Sink>(
     shelf: &mut S,
     out: &mut W,
 ) -> Result<(), Stop<'a>>
-    requires { limit ≤ 2000000 }
+    requires { limit ≤ 100000000 }
     ensures { Goes (Some (Cover limit program.now input.now)) (S.state shelf.old) (S.state shelf.new)
         (W.state out.old) (W.state out.new) (ended result) }
 {
@@ -72,7 +74,7 @@ fn run<'a, S: Shelf, W: Sink>(
     shelf: &mut S,
     out: &mut W,
 ) -> Result<(), Stop<'a>>
-    requires { limit ≤ 2000000 }
+    requires { limit ≤ 100000000 }
     ensures { Goes (Some (Run limit program.now input.now)) (S.state shelf.old) (S.state shelf.new)
         (W.state out.old) (W.state out.new) (ended result) }
 {

@@ -1,3 +1,5 @@
+//! Fetches and puts that stop a command where they fail.
+
 ghost use Rattle.atac_top.specs.Steps.{Fetches, Puts};
 
 use crate::stop::Stop;

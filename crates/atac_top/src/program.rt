@@ -1,22 +1,24 @@
+//! Programs that are run or covered, from their texts to what is put of them.
+
 ghost use Rattle.std.specs.Prelude.{◌≡◌, ◌≤◌, length, IfOk};
 ghost use Rattle.c_meaning.specs.Calls.{Source};
-ghost use Rattle.c_routines.specs.Routines.{source_of};
+ghost use Rattle.c_meaning.specs.Sources.{source_of};
 ghost use Rattle.atac_top.specs.Programs.{section, report};
 ghost use Rattle.atac_top.specs.Understanding.{Holds, ReadAs, RunAs};
 
 use crate::checking::{Checking, check, said};
 use crate::sections::section_of_run;
 use atac_base::items::Items;
-use atac_base::place::NoMemory;
 use atac_base::probes::Deaf;
-use c_front::front::{FrontRefusal, read};
+use c_base::place::NoMemory;
+use c_front::{FrontRefusal, read};
 use c_lex::TextKind;
-use c_machine::run::run;
-use c_sites::numbered::Sites;
+use c_machine::run;
+use c_sites::Sites;
 use c_tree::program::Program;
 use cover_core::collector::Collector;
 use cover_report::report::report;
-use probe_unit::program::instrument;
+use probe_in::instrument;
 use std::alloc::Global;
 
 // The digest in the program line of a program that is run at once and not written.
@@ -95,7 +97,7 @@ pub fn section_of(
     input_name: &str,
     input: &[u8],
 ) -> Result<Vec<u8>, NoMemory>
-    requires { limit ≤ 2000000 }
+    requires { limit ≤ 100000000 }
     ensures { IfOk result (λ text. text.items ≡ section input_name.now (source_of program.now) input.now limit) }
 {
     let mut deaf = Deaf;
@@ -112,7 +114,7 @@ pub fn cover(
     input_name: &str,
     input: &[u8],
 ) -> Result<Covering, NoMemory>
-    requires { limit ≤ 2000000 }
+    requires { limit ≤ 100000000 }
     ensures section { IfOk result (λ c. (P : Source) → Holds P understood.now → c.section.items ≡ section input_name.now P input.now limit) }
     ensures report { IfOk result (λ c. (P : Source) → Holds P understood.now → c.report.items ≡ report P input.now limit) }
 {

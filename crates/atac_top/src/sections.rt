@@ -1,8 +1,10 @@
+//! The section of a run: its input's name, its output, and the line of its end.
+
 ghost use Rattle.std.specs.Prelude.{◌≡◌, ◌++◌, ◌∷◌, [], length, string_bytes, OnOk, IfOk, codes};
 ghost use Rattle.std.specs.Fmt.{decimal};
 ghost use Rattle.atac_top.specs.Sections.{fault_text, end_text, end_line_of, section_of};
 
-use atac_base::place::NoMemory;
+use c_base::place::NoMemory;
 use c_meaning::end::{End, RunEnd};
 use c_store::value::Fault;
 use std::alloc::{AllocError, Global};

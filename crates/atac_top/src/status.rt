@@ -1,3 +1,5 @@
+//! How a call ended, and its exit code.
+
 ghost use Rattle.std.specs.Prelude.{◌≡◌};
 ghost use Rattle.atac_top.specs.Codes.{code_of};
 

@@ -1,10 +1,12 @@
+//! Why a command ends before it is done.
+
 ghost use Rattle.std.specs.Prelude.{◌≡◌, ◌≢◌};
 ghost use Rattle.atac_top.specs.Ends.{status_of};
 ghost use Rattle.atac_top.specs.Stops.{end_of};
 ghost use Rattle.atac_top.specs.declared.stop.Stop.TheVariants.{NoMemory};
 
 use crate::status::Status;
-use atac_base::place::NoMemory as MemoryWanted;
+use c_base::place::NoMemory as MemoryWanted;
 
 /// Why a command ends before it is done. A file is named by the word that was given.
 #[derive(Debug, Drop)]

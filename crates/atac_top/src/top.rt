@@ -1,3 +1,5 @@
+//! The top call.
+
 ghost use Rattle.std.specs.Prelude.{◌≡◌, ◌⊎◌, ◌↔◌, ◌++◌, ℕ, List, IsTrue, map, string_bytes, Some, None, IfSome};
 ghost use Rattle.atac_base.specs.Outside.{Rose};
 ghost use Rattle.atac_top.specs.Programs.{IsAccepted, program_in};
@@ -6,7 +8,7 @@ ghost use Rattle.atac_top.specs.Ends.{line_of, file_of, said_of};
 ghost use Rattle.atac_top.specs.Stops.{end_of};
 ghost use Rattle.atac_top.specs.Runs.{Runs, Tells};
 ghost use Rattle.atac_top.specs.Claims.{Supposes, Shows, NoFault};
-ghost use Rattle.atac_base.specs.declared.probes.Event.{Event};
+ghost use Rattle.c_events.specs.declared.events.Event.{Event};
 ghost use Rattle.cover_core.specs.Covered.{covers, IsCovered};
 
 use crate::commands::carry_out;
@@ -71,7 +73,7 @@ fn put_four<E: Sink>(err: &mut E, a: &[u8], b: &[u8], c: &[u8], d: &[u8]) -> Res
 ///
 /// `check P` fetches P, at most 1,048,576 bytes, refuses it where it isn't accepted, and puts the line of its counts to
 /// `out`. `run [-t N] P INPUT` fetches P, which may have probes, at most 67,108,864 bytes, and refuses it where it is no
-/// program; fetches INPUT, at most 16,777,216 bytes; runs P on it within N turns, from 1 to 2,000,000, or 1,000,000; and puts
+/// program; fetches INPUT, at most 16,777,216 bytes; runs P on it within N turns, from 1 to 100,000,000, or 1,000,000; and puts
 /// the section of this run to `out`. `cover [-t N] P INPUT` refuses P as `check` does, and puts the report of what this run
 /// covers behind the section. All other words are no command. An operand doesn't begin with `-`; an empty one
 /// is a name like another.

@@ -1,3 +1,5 @@
+//! The words of a call, and what they ask for.
+
 ghost use Rattle.std.specs.Prelude.{◌≡◌, ◌≤◌, [], ◌∷◌, map, string_bytes, option_map, IfSome};
 ghost use Rattle.atac_top.specs.Words.{is_operand, limit_of, runs_within, reads};
 ghost use Rattle.atac_top.specs.Stops.{command_of, IsFew};
@@ -6,7 +8,7 @@ ghost use Rattle.atac_top.specs.Stops.{command_of, IsFew};
 const TURN_LIMIT: u64 = 1_000_000;
 
 /// The most that they may say.
-const TURNS_MOST: u64 = 2_000_000;
+const TURNS_MOST: u64 = 100_000_000;
 
 /// What the words ask for: a program is checked; it is run on an input within so many turns, and what this covers is
 /// reported; or it is run, and no more.
@@ -26,11 +28,11 @@ fn may_be_operand(word: &str) -> bool
     }
 }
 
-/// A number of turns, from 1 to 2,000,000, in decimal with no zero in front.
+/// A number of turns, from 1 to 100,000,000, in decimal with no zero in front.
 #[tactic(auto, using(crate::proofs::Limits::empty_none, crate::proofs::Limits::plus_none, crate::proofs::Limits::zero_none))]
 fn limit_of(word: &str) -> Option<u64>
     ensures limit { result ≡ limit_of word.now }
-    ensures few { IfSome result (λ n. n ≤ 2000000) }
+    ensures few { IfSome result (λ n. n ≤ 100000000) }
 {
     let bytes = word.as_bytes();
     if bytes.len() == 0 || bytes[0] == b'+' || bytes[0] == b'0' {
@@ -96,7 +98,7 @@ fn asks_within<'a>(
 }
 
 fn asks_run<'a>(word: &str, limit: u64, program: &'a str, input: &'a str) -> Option<Asked<'a>>
-    requires { limit ≤ 2000000 }
+    requires { limit ≤ 100000000 }
     ensures command { option_map command_of result ≡ runs_within word.now limit program.now input.now }
     ensures few { IfSome result IsFew }
 {

@@ -4,8 +4,8 @@ use Rattle.std.specs.Int.{w128}
 use Rattle.std.proofs.lemmas.Bool.{cond-true, cond-false, and_from, and_right}
 use Rattle.std.proofs.lemmas.Int.{ints, by_lt_z, int_rem_euclid_is, to_z_pos}
 use Rattle.std.proofs.lemmas.Nat.{and_mask, div-add-mod'}
-use Rattle.atac_base.specs.declared.place.IntKind.{IntKind}
-use Rattle.atac_base.specs.declared.place.IntKind.TheVariants.{Char, Short, Int, Long, UChar, UShort, UInt, ULong}
+use Rattle.c_base.specs.declared.place.IntKind.{IntKind}
+use Rattle.c_base.specs.declared.place.IntKind.TheVariants.{Char, Short, Int, Long, UChar, UShort, UInt, ULong}
 use Rattle.c_arith.specs.Arith.{width, least, greatest, InRange, in_range, pattern, value_of, wrap}
 
 -- ---- kinds

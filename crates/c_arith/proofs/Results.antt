@@ -8,8 +8,8 @@ use Rattle.std.proofs.lemmas.Int.{ints, of_z-to_z, to_z-of_z, int_wrap_fits, SFi
 use Rattle.std.proofs.lemmas.Nat.{and_le_l, or_lt, xor_lt, div-add-mod', and_mask}
 use lib.IntN.{+ℤ_idl}
 use lib.Signed.{shr_z, mag_shr}
-use Rattle.atac_base.specs.declared.place.IntKind.{IntKind}
-use Rattle.atac_base.specs.declared.place.IntKind.TheVariants.{Char, Short, Int, Long, UChar, UShort, UInt, ULong}
+use Rattle.c_base.specs.declared.place.IntKind.{IntKind}
+use Rattle.c_base.specs.declared.place.IntKind.TheVariants.{Char, Short, Int, Long, UChar, UShort, UInt, ULong}
 use Rattle.c_arith.specs.declared.ArithUnary.{ArithUnary}
 use Rattle.c_arith.specs.declared.ArithUnary.TheVariants.{Plus, Minus, Flip, Not}
 use Rattle.c_arith.specs.declared.ArithBinary.{ArithBinary}

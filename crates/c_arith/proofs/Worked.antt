@@ -1,6 +1,6 @@
 -- Worked values of the definitions.
 use Rattle.std.proofs.Common.{◌≡◌, pos, negsuc, Ok, Err, refl}
-use Rattle.atac_base.specs.declared.place.IntKind.TheVariants.{Char, Int, Long, UInt, ULong}
+use Rattle.c_base.specs.declared.place.IntKind.TheVariants.{Char, Int, Long, UInt, ULong}
 use Rattle.c_arith.specs.declared.ArithUnary.TheVariants.{Minus, Flip}
 use Rattle.c_arith.specs.declared.ArithBinary.TheVariants.{Add, Mul, Div, Rem, Shl, Shr, Xor}
 use Rattle.c_arith.specs.declared.ArithFault.TheVariants.{DivideByZero, Overflow, ShiftCount}

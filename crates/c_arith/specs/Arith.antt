@@ -2,8 +2,8 @@
 use Rattle.std.specs.Prelude.{◌≡◌, ◌⊎◌, ℕ, ◌<◌, ◌*◌, ◌-◌, ◌%◌, ◌^◌, ℤ, pos, negsuc, ◌+ℤ◌, ◌-ℤ◌, ◌*ℤ◌, ◌≤ℤ◌, neg_ℤ, Bool, true, false, not, ◌&&◌, nat_lt, int_lt, int_le, int_div, int_rem, unsigned_abs, bit_and, bit_or, bit_xor, Result, Ok, Err, IfOk, ⊤, if◌then◌else◌}
 use Rattle.std.specs.Int.{int_div_euclid, int_rem_euclid}
 use Rattle.std.specs.Ordering.{int_eq}
-use Rattle.atac_base.specs.declared.place.IntKind.{IntKind}
-use Rattle.atac_base.specs.declared.place.IntKind.TheVariants.{Char, Short, Int, Long, UChar, UShort, UInt, ULong}
+use Rattle.c_base.specs.declared.place.IntKind.{IntKind}
+use Rattle.c_base.specs.declared.place.IntKind.TheVariants.{Char, Short, Int, Long, UChar, UShort, UInt, ULong}
 use Rattle.c_arith.specs.declared.ArithUnary.{ArithUnary}
 use Rattle.c_arith.specs.declared.ArithUnary.TheVariants.{Plus, Minus, Flip, Not}
 use Rattle.c_arith.specs.declared.ArithBinary.{ArithBinary}

@@ -4,7 +4,7 @@
 ghost use Rattle.std.specs.Prelude.{◌≡◌, ℤ, pos, ◌+ℤ◌, ◌*ℤ◌, ◌-◌, ◌^◌, ◌<◌, IfOk};
 ghost use Rattle.c_arith.specs.Arith.{width, least, greatest, InRange, IsPromoted, IsComparison, Divides, RightFits, pattern, value_of, wrap, truth, overflows, fitted, shift_count, IsTruth, unary_result, binary_result};
 
-use atac_base::place::IntKind;
+use c_base::place::IntKind;
 
 /// The operators of one operand (C89, 3.3.3.3).
 #[derive(Clone, Copy, Debug, PartialEq, Eq)]

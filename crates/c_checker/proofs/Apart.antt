@@ -2,7 +2,7 @@
 use Rattle.std.proofs.Common.{◌≡◌, ℕ, ℤ, zero, suc, ◌≤◌, Bool, true, false, not, ◌&&◌, ◌||◌, List, [], ◌∷◌, ◌++◌, length, map, drop, get_or, Option, Some, None, refl, ap, sym, ◌∙◌, arith, drop-cons}
 use Rattle.std.specs.List.{list_any}
 use Rattle.std.specs.Ordering.{int_eq}
-use Rattle.atac_base.specs.declared.place.IntKind.{IntKind}
+use Rattle.c_base.specs.declared.place.IntKind.{IntKind}
 use Rattle.c_arith.specs.Arith.{wrap}
 use Rattle.c_tree.specs.Operators.{is_among, wrapped, differ}
 use Rattle.c_checker.specs.Among.{is_fresh, with_seen}

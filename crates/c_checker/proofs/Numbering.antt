@@ -1,6 +1,6 @@
 -- A row of a list that is searched for a number.
 use Rattle.std.proofs.Common.{◌≡◌, ℕ, zero, suc, ◌+◌, ◌-◌, ◌≤◌, Bool, true, false, cond, List, [], ◌∷◌, drop, slice_get, Option, Some, None, refl, ap, sym, ◌∙◌, add-one, arith}
-use Rattle.c_tree.specs.State.{number_from}
+use Rattle.c_tables.specs.Rows.{number_from}
 
 module _ {R : Type 0} where
   -- the test holds at a row

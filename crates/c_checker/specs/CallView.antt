@@ -1,5 +1,5 @@
 -- An argument, wherever its type lies in memory.
-use Rattle.c_kinds.specs.Kinds.{type_in}
+use Rattle.c_type_rules.specs.Kinds.{type_in}
 use Rattle.c_tree.specs.Operators as operators
 use Rattle.c_checker.specs.declared.calls.Given.{Given}
 

@@ -2,8 +2,8 @@
 use Rattle.std.specs.Prelude.{List, Bool, Option, Some, None, map, Vec}
 use Rattle.std.specs.Global.{Global}
 use Rattle.c_syntax.specs.View.{type_of}
-use Rattle.c_kinds.specs.Layouts.{measures}
-use Rattle.c_tree.specs.Tables.{tables_shape}
+use Rattle.c_type_rules.specs.Layouts.{measures}
+use Rattle.c_tables.specs.Tables.{tables_shape}
 use Rattle.c_tree.specs.State as states
 use Rattle.c_checker.specs.declared.checker.Seen.{Seen}
 use Rattle.c_checker.specs.declared.checker.Checker.{Checker}

@@ -1,5 +1,5 @@
 -- What is known of an expression, wherever its type lies in memory.
-use Rattle.c_kinds.specs.Kinds.{type_in}
+use Rattle.c_type_rules.specs.Kinds.{type_in}
 use Rattle.c_tree.specs.Sorts as sorts
 use Rattle.c_checker.specs.declared.sort.Sort.{Sort}
 use Rattle.c_checker.specs.declared.sort.Typing.{Typing}

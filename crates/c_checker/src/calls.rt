@@ -1,12 +1,12 @@
 // Calls (C89, 3.3.2.2).
 
 ghost use Rattle.std.specs.Prelude.{◌≡◌, map, OnOk, IfOk};
-ghost use Rattle.c_kinds.specs.Kinds.{type_in};
+ghost use Rattle.c_type_rules.specs.Kinds.{type_in};
 ghost use Rattle.c_syntax.specs.View.{type_of};
 ghost use Rattle.c_tree.specs.Operators.{called, fit_all, judged, call_of, typed_call, given_at};
-ghost use Rattle.c_kinds.specs.Verdicts.{fits_type};
+ghost use Rattle.c_type_rules.specs.Verdicts.{fits_type};
 ghost use Rattle.c_tree.specs.Rulings.{by, rule};
-ghost use Rattle.c_tree.specs.State.{row};
+ghost use Rattle.c_tables.specs.Rows.{row};
 ghost use Rattle.c_checker.specs.CheckerView.{state_of};
 ghost use Rattle.c_checker.specs.SortView.{sort_of, typing_of};
 ghost use Rattle.c_checker.specs.CallView.{given_of};
@@ -15,13 +15,13 @@ use crate::checker::Checker;
 use crate::functions::copies;
 use crate::ruling::by;
 use crate::sort::{Sort, Typing, copied};
-use atac_base::place::{NoMemory, Pos};
-use c_kinds::judged::Operand;
-use c_kinds::kinds::copy;
-use c_kinds::storing::fits;
+use c_base::place::{NoMemory, Pos};
+use c_constants::constants::Constant;
 use c_syntax::tree::CType;
 use c_tree::meaning::Entity;
-use c_values::constants::Constant;
+use c_type_rules::judged::Operand;
+use c_type_rules::kinds::copy;
+use c_type_rules::storing::fits;
 
 /// An argument: the number and the place of its first token, its type, where no complaint stands inside, and whether it is a
 /// null constant (C89, 3.2.2.3).

@@ -1,3 +1,5 @@
+//! What is known at a token, with the complaints so far.
+
 ghost use Rattle.std.specs.Prelude.{◌≡◌, None, length, OnOk, IfOk};
 ghost use Rattle.c_tree.specs.State.{step, steps, complain, demand};
 ghost use Rattle.c_tree.specs.Operators.{hushed, heard};
@@ -5,13 +7,14 @@ ghost use Rattle.c_tree.specs.Parts.{within, outside};
 ghost use Rattle.c_tree.specs.Units.{start};
 ghost use Rattle.c_checker.specs.CheckerView.{state_of, known_of};
 
-use atac_base::place::{NoMemory, Pos};
-use c_kinds::extent::Measured;
+use c_base::place::{NoMemory, Pos};
 use c_scopes::names::Names;
 use c_scopes::scopes::Scopes;
 use c_syntax::tree::CType;
-use c_tree::meaning::{Builtin, Complaint, Entity, Tag};
-use c_tree::tables::Tables;
+use c_tables::builtins::Builtin;
+use c_tables::tables::Tables;
+use c_tree::meaning::{Complaint, Entity, Tag};
+use c_type_rules::extent::Measured;
 use std::alloc::Global;
 
 /// The numbers of the probes that were seen, each with its spelling; tests and selects are one kind.

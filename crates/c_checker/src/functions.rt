@@ -1,21 +1,21 @@
 // Functions by their names and types: one is in the tables from its first mention on.
 
 ghost use Rattle.std.specs.Prelude.{◌≡◌, ◌≤◌, [], ◌∷◌, length, map, OnOk, IfOk};
-ghost use Rattle.atac_base.specs.declared.place.IntKind.TheVariants.{Int};
+ghost use Rattle.c_base.specs.declared.place.IntKind.TheVariants.{Int};
 ghost use Rattle.c_syntax.specs.Shape.{int};
 ghost use Rattle.c_syntax.specs.View.{type_of};
 ghost use Rattle.c_tree.specs.State.{same_types, is_function, function_number, mention};
-ghost use Rattle.c_tree.specs.Tables.{tables_shape, function_shape};
-ghost use Rattle.c_tree.specs.Builtins.{builtin_name, builtin_result, builtin_params};
+ghost use Rattle.c_tables.specs.Tables.{tables_shape, function_shape};
+ghost use Rattle.c_tables.specs.Builtins.{builtin_name, builtin_result, builtin_params};
 ghost use Rattle.c_checker.specs.CheckerView.{state_of};
 
 use crate::checker::Checker;
-use atac_base::place::{IntKind, NoMemory};
-use c_kinds::kinds::{copy, same};
+use c_base::place::{IntKind, NoMemory};
 use c_syntax::text::Text;
 use c_syntax::tree::CType;
-use c_tree::meaning::Builtin;
-use c_tree::tables::{FunctionRow, Tables};
+use c_tables::builtins::Builtin;
+use c_tables::tables::{FunctionRow, Tables};
+use c_type_rules::kinds::{copy, same};
 use std::alloc::Global;
 
 impl Checker {

@@ -3,12 +3,12 @@
 
 pub mod calls;
 pub mod checker;
-pub mod functions;
-pub mod members;
-pub mod names;
-pub mod operators;
+mod functions;
+mod members;
+mod names;
+mod operators;
 pub mod probes;
-pub mod rows;
+mod rows;
 pub mod ruling;
-pub mod selects;
+mod selects;
 pub mod sort;

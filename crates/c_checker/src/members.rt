@@ -1,7 +1,7 @@
 // The fields of structures (C89, 3.3.2.3).
 
 ghost use Rattle.std.specs.Prelude.{◌≡◌, OnOk, IfOk};
-ghost use Rattle.c_kinds.specs.Kinds.{type_in};
+ghost use Rattle.c_type_rules.specs.Kinds.{type_in};
 ghost use Rattle.c_syntax.specs.Shape.{dot, arrow};
 ghost use Rattle.c_tree.specs.Rulings.{of_kind};
 ghost use Rattle.c_tree.specs.Operators.{typed_field, held_field, field_rule};
@@ -12,12 +12,12 @@ ghost use Rattle.c_checker.specs.SortView.{sort_of, typing_of};
 use crate::checker::Checker;
 use crate::ruling::{Ruling, by, complete};
 use crate::sort::{Sort, Typing};
-use atac_base::place::{NoMemory, Pos};
-use c_kinds::kinds::copy;
-use c_kinds::single;
+use c_base::place::{NoMemory, Pos};
+use c_constants::constants::Constant;
+use c_constants::places;
 use c_syntax::tree::CType;
-use c_values::constants::Constant;
-use c_values::places;
+use c_type_rules::kinds::copy;
+use c_type_rules::single;
 
 impl Checker {
     /// `.` and the field with that name, which stands at that place.

@@ -1,14 +1,14 @@
 // Constants and names (C89, 3.3.1).
 
 ghost use Rattle.std.specs.Prelude.{◌≡◌, pos, OnOk, IfOk, Some, option_map};
-ghost use Rattle.atac_base.specs.declared.place.IntKind.TheVariants.{Char};
+ghost use Rattle.c_base.specs.declared.place.IntKind.TheVariants.{Char};
 ghost use Rattle.c_arith.specs.Arith.{wrap};
-ghost use Rattle.c_kinds.specs.Layouts.{measures};
+ghost use Rattle.c_type_rules.specs.Layouts.{measures};
 ghost use Rattle.c_syntax.specs.View.{type_of};
-ghost use Rattle.c_tree.specs.State.{row};
+ghost use Rattle.c_tables.specs.Rows.{row};
 ghost use Rattle.c_tree.specs.Rulings.{whole};
 ghost use Rattle.c_tree.specs.Operators.{typed_number, typed_char, typed_string, string_type, with_literal, literal_number, typed_name, named_variable, named_parameter, named_entity, variable_constant};
-ghost use Rattle.c_values.specs.Numbers.{number_of};
+ghost use Rattle.c_constants.specs.Numbers.{number_of};
 ghost use Rattle.c_checker.specs.CheckerView.{state_of};
 ghost use Rattle.c_checker.specs.RulingView.{ruled_of};
 ghost use Rattle.c_checker.specs.SortView.{typing_of};
@@ -16,15 +16,15 @@ ghost use Rattle.c_checker.specs.SortView.{typing_of};
 use crate::checker::Checker;
 use crate::ruling::{Ruling, whole};
 use crate::sort::{Sort, Typing};
-use atac_base::place::{IntKind, NoMemory, Pos};
-use c_kinds::extent::Measured;
-use c_kinds::kinds::{boxed, copy};
+use c_base::place::{IntKind, NoMemory, Pos};
+use c_constants::constants::{Constant, character};
+use c_constants::numbers::number_of;
 use c_syntax::text::Text;
 use c_syntax::tree::CType;
+use c_tables::tables::LiteralRow;
 use c_tree::meaning::Entity;
-use c_tree::tables::LiteralRow;
-use c_values::constants::{Constant, character};
-use c_values::numbers::number_of;
+use c_type_rules::extent::Measured;
+use c_type_rules::kinds::{boxed, copy};
 use std::alloc::Global;
 
 impl Checker {

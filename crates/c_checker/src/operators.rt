@@ -1,7 +1,7 @@
 // What operators come to, by what is known of their operands (C89, 3.3).
 
 ghost use Rattle.std.specs.Prelude.{◌≡◌, OnOk, IfOk};
-ghost use Rattle.c_kinds.specs.Kinds.{type_in};
+ghost use Rattle.c_type_rules.specs.Kinds.{type_in};
 ghost use Rattle.c_tree.specs.Rulings.{kind_at, rule};
 ghost use Rattle.c_tree.specs.Sorts.{a_value, a_place, plainly, valuing};
 ghost use Rattle.c_tree.specs.Operators.{typed_paren, typed_unary, typed_step, typed_cast, typed_plain, typed_and, typed_or, typed_assign, typed_comma, typed_choice, typed_index, size_outcome, typed_size, typed_type_size, logical};
@@ -16,11 +16,11 @@ use crate::ruling::{
     settled_whole, size_constant,
 };
 use crate::sort::{Sort, Typing};
-use atac_base::place::{NoMemory, Pos};
-use c_kinds::{choosing, operators as kinds, single, storing};
+use c_base::place::{NoMemory, Pos};
+use c_constants::constants::Constant;
+use c_constants::operators as constants;
 use c_syntax::tree::{BinaryOp, CType, UnaryOp};
-use c_values::constants::Constant;
-use c_values::operators as constants;
+use c_type_rules::{choosing, operators as kinds, single, storing};
 
 impl Checker {
     // A value with the ruling's type.

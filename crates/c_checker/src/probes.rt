@@ -2,8 +2,8 @@
 
 ghost use Rattle.std.specs.Prelude.{◌≡◌, None, OnOk, IfOk};
 ghost use Rattle.c_scopes.specs.Scoping.{named};
-ghost use Rattle.c_kinds.specs.Kinds.{type_in};
-ghost use Rattle.c_kinds.specs.Verdicts.{truth_type, scalar_type};
+ghost use Rattle.c_type_rules.specs.Kinds.{type_in};
+ghost use Rattle.c_type_rules.specs.Verdicts.{truth_type, scalar_type};
 ghost use Rattle.c_tree.specs.Rulings.{by, then_rule, of_kind, allowed_if};
 ghost use Rattle.c_tree.specs.Operators.{seen_of, with_seen, claimed, claim, as_decayed, probe_rule, probe_sort, typed_probe};
 ghost use Rattle.c_checker.specs.CheckerView as views;
@@ -15,12 +15,12 @@ ghost use Rattle.c_checker.specs.ProbeView.{probing_of};
 use crate::checker::{Checker, Seen};
 use crate::ruling::{Ruling, allowed_if, by};
 use crate::sort::{Sort, Typing};
-use atac_base::place::{NoMemory, Pos};
-use c_kinds::kinds::{decayed, is_scalar};
-use c_kinds::storing;
+use c_base::place::{NoMemory, Pos};
+use c_constants::places;
+use c_constants::probes::probe_number;
 use c_syntax::tree::CType;
-use c_values::places;
-use c_values::probes::probe_number;
+use c_type_rules::kinds::{decayed, is_scalar};
+use c_type_rules::storing;
 
 /// The probes that have no case constants.
 #[derive(Clone, Copy, Debug, PartialEq, Eq)]

@@ -1,15 +1,16 @@
 // The rows of the tables by their numbers, the first of which is 1; there is none with another number.
 
 ghost use Rattle.std.specs.Prelude.{◌≡◌, map, option_map};
-ghost use Rattle.c_kinds.specs.Kinds.{type_in};
+ghost use Rattle.c_type_rules.specs.Kinds.{type_in};
 ghost use Rattle.c_syntax.specs.View.{type_of};
-ghost use Rattle.c_tree.specs.State.{row, fields_of, field_type, counts, is_set};
-ghost use Rattle.c_tree.specs.Tables.{field_shape, function_shape, variable_shape};
+ghost use Rattle.c_tree.specs.State.{fields_of, field_type, counts, is_set};
+ghost use Rattle.c_tables.specs.Rows.{row};
+ghost use Rattle.c_tables.specs.Tables.{field_shape, function_shape, variable_shape};
 ghost use Rattle.c_checker.specs.CheckerView.{state_of};
 
 use crate::checker::Checker;
 use c_syntax::tree::CType;
-use c_tree::tables::{FieldRow, FunctionRow, VariableRow};
+use c_tables::tables::{FieldRow, FunctionRow, VariableRow};
 
 impl Checker {
     /// The variable with that number.

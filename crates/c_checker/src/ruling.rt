@@ -1,9 +1,9 @@
 // What an operator's operands come to: the type of the result, or a complaint.
 
 ghost use Rattle.std.specs.Prelude.{◌≡◌, OnOk, IfOk};
-ghost use Rattle.c_kinds.specs.Kinds.{type_in};
-ghost use Rattle.c_kinds.specs.Layouts.{measures, measure, measure_of};
-ghost use Rattle.c_kinds.specs.Verdicts.{verdict_of};
+ghost use Rattle.c_type_rules.specs.Kinds.{type_in};
+ghost use Rattle.c_type_rules.specs.Layouts.{measures, measure, measure_of};
+ghost use Rattle.c_type_rules.specs.Verdicts.{verdict_of};
 ghost use Rattle.c_syntax.specs.View.{type_of};
 ghost use Rattle.c_syntax.specs.Shape.{pointer};
 ghost use Rattle.c_tree.specs.State.{complain};
@@ -12,14 +12,14 @@ ghost use Rattle.c_checker.specs.CheckerView.{state_of};
 ghost use Rattle.c_checker.specs.RulingView.{ruled_of};
 
 use crate::checker::Checker;
-use atac_base::place::{IntKind, NoMemory, Pos};
-use c_kinds::extent::Measured;
-use c_kinds::judged::Judged;
-use c_kinds::kinds::decayed;
-use c_kinds::layout::measured;
+use c_base::place::{IntKind, NoMemory, Pos};
+use c_constants::constants::Constant;
+use c_constants::{operators, places};
 use c_syntax::tree::CType;
-use c_values::constants::Constant;
-use c_values::{operators, places};
+use c_type_rules::extent::Measured;
+use c_type_rules::judged::Judged;
+use c_type_rules::kinds::decayed;
+use c_type_rules::layout::measured;
 
 /// What an operator comes to: the type of its result; nothing, where a complaint stands inside an operand; or the number of
 /// a complaint.

@@ -3,7 +3,7 @@
 ghost use Rattle.std.specs.Prelude.{◌≡◌, IsTrue, OnOk, IfOk};
 ghost use Rattle.c_tree.specs.Parts.{judged_constant};
 ghost use Rattle.c_tree.specs.Operators.{wrapped, differ, select_rule, typed_select};
-ghost use Rattle.c_values.specs.Constants as constants;
+ghost use Rattle.c_constants.specs.Constants as constants;
 ghost use Rattle.c_checker.specs.CheckerView.{state_of};
 ghost use Rattle.c_checker.specs.RulingView.{ruled_of};
 ghost use Rattle.c_checker.specs.SortView.{sort_of, typing_of};
@@ -12,11 +12,11 @@ ghost use Rattle.c_checker.specs.Among.{is_fresh, with_seen};
 use crate::checker::Checker;
 use crate::ruling::{Ruling, settled_if};
 use crate::sort::{Sort, Typing};
-use atac_base::place::{IntKind, NoMemory, Pos};
 use c_arith::convert;
-use c_kinds::kinds::promoted;
+use c_base::place::{IntKind, NoMemory, Pos};
+use c_constants::constants::{Constant, value};
 use c_syntax::tree::CType;
-use c_values::constants::{Constant, value};
+use c_type_rules::kinds::promoted;
 use indexmap::IndexSet;
 use std::alloc::Global;
 
@@ -36,27 +36,37 @@ impl Checker {
         Ok(value)
     }
 
-    /// A select probe round an integer, with the values of its constants; behind it the closing parenthesis stands.
+    /// A select probe round an integer, with the values of its constants, in all of which no complaint came if `clean` holds;
+    /// behind it the closing parenthesis stands.
     pub fn typed_select(
         &mut self,
         token: u32,
         pos: Pos,
+        clean: bool,
         values: &[Option<i128>],
         a: Sort,
     ) -> Result<Typing, NoMemory>
-        ensures typing { IfOk result (λ t. typing_of t ≡ (typed_select token pos values.now (sort_of a) (state_of self.old)).typing) }
-        ensures state { OnOk result (state_of self.new ≡ (typed_select token pos values.now (sort_of a) (state_of self.old)).state) }
+        ensures typing { IfOk result (λ t. typing_of t ≡ (typed_select token pos clean values.now (sort_of a) (state_of self.old)).typing) }
+        ensures state { OnOk result (state_of self.new ≡ (typed_select token pos clean values.now (sort_of a) (state_of self.old)).state) }
     {
-        let kind = self.rule(select_rule(values, a, self.alloc)?, token, pos)?;
+        let kind = self.rule(select_rule(clean, values, a, self.alloc)?, token, pos)?;
         self.step();
         Ok(Typing::plainly(Sort::value(kind, Constant::No)))
     }
 }
 
-// An integer, where the constants differ in its promoted type.
-fn select_rule(values: &[Option<i128>], a: Sort, alloc: Global) -> Result<Ruling, NoMemory>
-    ensures { IfOk result (λ r. ruled_of r ≡ select_rule values.now (sort_of a)) }
+// An integer, where the constants differ in its promoted type, if no complaint stands inside.
+fn select_rule(
+    clean: bool,
+    values: &[Option<i128>],
+    a: Sort,
+    alloc: Global,
+) -> Result<Ruling, NoMemory>
+    ensures { IfOk result (λ r. ruled_of r ≡ select_rule clean values.now (sort_of a)) }
 {
+    if !clean {
+        return Ok(Ruling::Unsettled);
+    }
     match a.kind {
         None => Ok(Ruling::Unsettled),
         Some(CType::Int(kind)) => {

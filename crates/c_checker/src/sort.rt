@@ -1,7 +1,7 @@
 // What is known of an expression.
 
 ghost use Rattle.std.specs.Prelude.{◌≡◌, None, IfOk};
-ghost use Rattle.c_kinds.specs.Kinds.{type_in};
+ghost use Rattle.c_type_rules.specs.Kinds.{type_in};
 ghost use Rattle.c_syntax.specs.View.{type_of, note_shape};
 ghost use Rattle.c_tree.specs.Operators.{left_side};
 ghost use Rattle.c_tree.specs.Sorts.{no_sort, a_value, a_place, plainly, naming, valuing, note_of, value_note, cleared, null, changeable};
@@ -9,11 +9,11 @@ ghost use Rattle.c_checker.specs.RulingView.{ruled_of};
 ghost use Rattle.c_checker.specs.SortView.{sort_of, typing_of};
 
 use crate::ruling::{Ruling, settled_if};
-use atac_base::place::NoMemory;
-use c_kinds::judged::Operand;
-use c_kinds::kinds::copy;
+use c_base::place::NoMemory;
+use c_constants::constants::{Constant, is_null};
 use c_syntax::tree::{CType, Note};
-use c_values::constants::{Constant, is_null};
+use c_type_rules::judged::Operand;
+use c_type_rules::kinds::copy;
 use std::alloc::Global;
 
 /// What is known of an expression: its type, where no complaint stands inside; what is known of its value (C89, 3.4); and

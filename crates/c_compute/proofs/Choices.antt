@@ -1,6 +1,6 @@
 -- What is chosen by case constants.
 use Rattle.std.proofs.Common.{◌≡◌, suc, ℤ, List, [], ◌∷◌, length, Option, None, refl, ap}
-use Rattle.atac_base.specs.declared.place.IntKind.{IntKind}
+use Rattle.c_base.specs.declared.place.IntKind.{IntKind}
 use Rattle.c_syntax.specs.declared.tree.Node.{Node}
 use Rattle.c_syntax.specs.View.{node_list}
 use Rattle.c_store.specs.declared.value.Value.{Value}

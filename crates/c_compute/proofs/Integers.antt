@@ -8,8 +8,8 @@ use Rattle.std.proofs.lemmas.Bool.{and_from, and_right}
 use Rattle.std.proofs.lemmas.Bool.Decides.{Decides-eqb, Decides-int_eq, Decides-like, same_from_decides}
 use Rattle.std.proofs.lemmas.Int.{ints, by_lt_z, to_z-of_z, fits_signed_from_abs, fits_signed_mul, quot_is, rem_is}
 use lib.Signed.{shr_z, mag_shr}
-use Rattle.atac_base.specs.declared.place.IntKind.{IntKind}
-use Rattle.atac_base.specs.declared.place.IntKind.TheVariants.{Char, Short, Int, Long, UChar, UShort, UInt, ULong}
+use Rattle.c_base.specs.declared.place.IntKind.{IntKind}
+use Rattle.c_base.specs.declared.place.IntKind.TheVariants.{Char, Short, Int, Long, UChar, UShort, UInt, ULong}
 use Rattle.c_arith.specs.declared.ArithFault.TheVariants.{Overflow, DivideByZero}
 use Rattle.c_arith.specs.declared.ArithBinary.TheVariants as two
 use Rattle.c_arith.specs.Arith.{InRange, least, greatest, wrap, fitted, pattern, value_of, shifted_down, binary_result}
@@ -17,8 +17,8 @@ use Rattle.c_arith.proofs.Patterns.{pattern_is, value_of-low, value_of-high, wra
 use Rattle.c_arith.proofs.Results.{fitted-over, fitted-held, and_below, or_below, xor_below, divided, remainder-over, remainder-held, shift_count-held, shift-left, shift-right}
 use Rattle.c_syntax.specs.declared.tree.BinaryOp.{BinaryOp}
 use Rattle.c_syntax.specs.declared.tree.BinaryOp.TheVariants as op
-use Rattle.c_kinds.specs.Kinds.{same_int, promote, meet}
-use Rattle.c_values.specs.Constants.{arith_of, is_shift, computing_kind, right_operand}
+use Rattle.c_type_rules.specs.Kinds.{same_int, promote, meet}
+use Rattle.c_constants.specs.Constants.{arith_of, is_shift, computing_kind, right_operand}
 use Rattle.c_store.specs.declared.value.Value.{Value}
 use Rattle.c_store.specs.declared.value.Fault.{Fault}
 use Rattle.c_meaning.specs.Operators.{integer, of_integers}

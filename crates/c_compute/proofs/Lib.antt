@@ -1,6 +1,9 @@
 pub mod Sizes
 pub mod Measures
 pub mod Integers
-pub mod Steps
 pub mod Offsets
 pub mod Choices
+pub mod Filings
+pub mod Lists
+pub mod Scalars
+pub mod Cells

@@ -4,10 +4,11 @@ use Rattle.std.specs.Prelude.{slice_get, slice_set}
 use Rattle.std.proofs.lemmas.Bool.{eqb-true, eqb-false}
 use Rattle.std.proofs.lemmas.List.{get_or-set_other, get_or-set_same}
 use Rattle.c_syntax.specs.Shape.{TypeOf}
-use Rattle.c_tree.specs.Tables.{VariableShape, TablesShape}
-use Rattle.c_tree.specs.State.{row}
+use Rattle.c_tables.specs.Tables.{VariableShape, TablesShape}
+use Rattle.c_tables.specs.Rows.{row}
 use Rattle.c_meaning.specs.Layout.{cells, kind_in, variable_kind}
-use Rattle.c_compute.specs.Sizes.{kept, IsMeasured}
+use Rattle.c_compute.specs.Sizes.{IsMeasured}
+use Rattle.c_base.specs.Kept.{kept}
 
 longer : (t : List ℕ) (v : ℕ) → get_or (t ++ 0 ∷ []) v 0 ≡ get_or t v 0
 longer [] zero = refl

@@ -3,10 +3,10 @@ use Rattle.std.proofs.Common.{◌≡◌, ℕ, suc, ◌+◌, ◌-◌, ◌^◌, �
 use Rattle.std.specs.Prelude.{if◌then◌else◌}
 use Rattle.c_syntax.specs.declared.text.Text.{Text}
 use Rattle.c_syntax.specs.View.{type_of}
-use Rattle.c_tree.specs.declared.tables.FieldRow.{FieldRow}
-use Rattle.c_tree.specs.Tables.{TablesShape, FieldShape, field_shape}
+use Rattle.c_tables.specs.declared.tables.FieldRow.{FieldRow}
+use Rattle.c_tables.specs.Tables.{TablesShape, FieldShape, field_shape}
 use Rattle.c_meaning.specs.Layout.{Part, cells, part_from}
-use Rattle.c_compute.specs.Sizes.{kept}
+use Rattle.c_base.specs.Kept.{kept}
 use Rattle.c_compute.specs.Parts.{kept_part}
 use Rattle.c_compute.proofs.Sizes.{kept_small}
 

@@ -4,10 +4,11 @@ use Rattle.std.proofs.Math.Nat.{mul_assoc}
 use Rattle.std.specs.List.{repeat}
 use Rattle.std.proofs.lemmas.List.{length-append}
 use Rattle.c_syntax.specs.Shape.{TypeOf, int, pointer, array, structure, nothing}
-use Rattle.c_tree.specs.Tables.{StructShape, FieldShape, TablesShape}
-use Rattle.c_tree.specs.State.{row, fields_in}
+use Rattle.c_tables.specs.Tables.{StructShape, FieldShape, TablesShape}
+use Rattle.c_tables.specs.Rows.{row, fields_in}
 use Rattle.c_meaning.specs.Layout.{field_scalars, type_scalars, scalars_to, cells}
-use Rattle.c_compute.specs.Sizes.{element, elements, field_count, element_count, scalar_count, kept}
+use Rattle.c_compute.specs.Sizes.{element, elements, field_count, element_count, scalar_count}
+use Rattle.c_base.specs.Kept.{kept}
 
 repeat_length : {A : Type 0} (n : ℕ) (xs : List A) → length (repeat n xs) ≡ n * length xs
 repeat_length zero xs = grind arith

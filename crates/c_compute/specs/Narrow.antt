@@ -1,7 +1,7 @@
 -- The types whose values are ints as operands (C89, 3.2.1.1), and steps.
 use Rattle.std.specs.Prelude.{ℤ, Bool, true, false, Result, Ok}
-use Rattle.atac_base.specs.declared.place.IntKind.{IntKind}
-use Rattle.atac_base.specs.declared.place.IntKind.TheVariants.{Char, Short, Int, Long, UChar, UShort, UInt, ULong}
+use Rattle.c_base.specs.declared.place.IntKind.{IntKind}
+use Rattle.c_base.specs.declared.place.IntKind.TheVariants.{Char, Short, Int, Long, UChar, UShort, UInt, ULong}
 use Rattle.c_syntax.specs.declared.tree.StepOp.{StepOp}
 use Rattle.c_syntax.specs.declared.tree.StepOp.TheVariants.{PreInc, PreDec, PostInc, PostDec}
 use Rattle.c_syntax.specs.Shape.{Step, up, down}

@@ -3,7 +3,7 @@ use Rattle.std.specs.Prelude.{Option, Some, None}
 use Rattle.c_syntax.specs.View.{type_of}
 use Rattle.c_meaning.specs.Layout.{Part}
 use Rattle.c_compute.specs.declared.layout.Part as code
-use Rattle.c_compute.specs.Sizes.{kept}
+use Rattle.c_base.specs.Kept.{kept}
 
 -- what the code gives of one
 abbrev pub part_shape : code.Part → Part

@@ -1,8 +1,9 @@
 -- How many cells a type has, counted by its structures (C89, 3.1.2.5).
 use Rattle.std.specs.Prelude.{◌≡◌, get_or, Some, ℕ, zero, suc, ◌+◌, ◌*◌, ◌-◌, ◌^◌, min, List, [], ◌∷◌}
+use Rattle.c_base.specs.Kept.{kept}
 use Rattle.c_syntax.specs.Shape.{TypeOf, int, pointer, array, structure}
-use Rattle.c_tree.specs.Tables.{StructShape, FieldShape, TablesShape}
-use Rattle.c_tree.specs.State.{row, fields_in}
+use Rattle.c_tables.specs.Tables.{StructShape, FieldShape, TablesShape}
+use Rattle.c_tables.specs.Rows.{row, fields_in}
 use Rattle.c_meaning.specs.Layout.{cells, variable_kind}
 
 -- what its elements are, where it is an array, one in another
@@ -31,10 +32,6 @@ element_count inner rows _ = 0
 abbrev pub scalar_count : ℕ → List StructShape → TypeOf → ℕ
 scalar_count zero rows t = 0
 scalar_count (suc depth) rows t = elements t * element_count (scalar_count depth rows) rows (element t)
-
--- kept up to the greatest number of 32 bits
-abbrev pub kept : ℕ → ℕ
-kept n = min n (2 ^ 32 - 1)
 
 -- ---- the cells of variables, kept in a table
 

@@ -1,23 +1,23 @@
 //! Constant expressions, and what a `switch` and a select probe choose by them (C89, 3.4 and 3.6.4.2).
 
 ghost use Rattle.std.specs.Prelude.{◌≡◌, ◌+◌, IfOk, length, Option, Some};
-ghost use Rattle.atac_base.specs.declared.place.IntKind.{IntKind};
+ghost use Rattle.c_base.specs.declared.place.IntKind.{IntKind};
 ghost use Rattle.c_syntax.specs.View.{expr_shape, node_shape, note_shape, node_list, item_list};
-ghost use Rattle.c_values.specs.Numbers.{number_of};
-ghost use Rattle.c_items.specs.Tests.{number_constant, noted_constant, cast_to, choosing, case_value};
+ghost use Rattle.c_constants.specs.Numbers.{number_of};
+ghost use Rattle.c_walk.specs.Tests.{number_constant, noted_constant, cast_to, choosing, case_value};
 ghost use Rattle.c_meaning.specs.Constants.{constant, constant_form, case_constants, select_constants, number_among, chosen_among};
 ghost use Rattle.c_meaning.specs.Statements.{case_number};
 
-use atac_base::place::{IntKind, NoMemory};
 use c_arith::convert;
-use c_items::tests::choosing;
+use c_base::place::{IntKind, NoMemory};
+use c_constants::constants::{Constant, character};
+use c_constants::numbers;
+use c_constants::operators::{binary, both, cast, choice, either, unary};
+use c_constants::places::probed;
 use c_store::value::Value;
 use c_syntax::text::Text;
 use c_syntax::tree::{CType, Expr, ExprProbe, Item, Label, Node, Note};
-use c_values::constants::{Constant, character};
-use c_values::numbers;
-use c_values::operators::{binary, both, cast, choice, either, unary};
-use c_values::places::probed;
+use c_walk::tests::choosing;
 
 // ---- constant expressions
 

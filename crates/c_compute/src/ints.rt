@@ -1,13 +1,13 @@
 // What operators make of two values of type int, which most are.
 
 ghost use Rattle.std.specs.Prelude.{◌≡◌, ◌↔◌, IsTrue};
-ghost use Rattle.atac_base.specs.declared.place.IntKind.TheVariants.{Int};
+ghost use Rattle.c_base.specs.declared.place.IntKind.TheVariants.{Int};
 ghost use Rattle.c_arith.specs.declared.ArithBinary.TheVariants.{Div, Rem, Shl, Shr};
 ghost use Rattle.c_arith.specs.Arith.{InRange, fitted, truth, binary_result};
 ghost use Rattle.c_meaning.specs.Operators.{integer, of_integers};
 ghost use Rattle.c_compute.specs.Narrow.{is_narrow, given};
 
-use atac_base::place::IntKind;
+use c_base::place::IntKind;
 use c_store::value::{Fault, Value};
 use c_syntax::tree::BinaryOp;
 

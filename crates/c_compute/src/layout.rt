@@ -3,15 +3,16 @@
 ghost use Rattle.std.specs.Prelude.{◌≡◌, ◌*◌, ◌<◌, ◌≤◌, length, map, get_or, option_map, Some, OnOk, IfOk};
 ghost use Rattle.c_syntax.specs.Shape.{TypeOf};
 ghost use Rattle.c_syntax.specs.View.{type_of};
-ghost use Rattle.c_tree.specs.State.{row, fields_in};
-ghost use Rattle.c_tree.specs.Tables.{TablesShape, tables_shape, field_shape};
+ghost use Rattle.c_tables.specs.Rows.{row, fields_in};
+ghost use Rattle.c_tables.specs.Tables.{TablesShape, tables_shape, field_shape};
 ghost use Rattle.c_meaning.specs.Layout.{cells, variable_kind, part_in, part_from};
-ghost use Rattle.c_compute.specs.Sizes.{element, elements, element_count, field_count, scalar_count, kept, IsMeasured};
+ghost use Rattle.c_compute.specs.Sizes.{element, elements, element_count, field_count, scalar_count, IsMeasured};
+ghost use Rattle.c_base.specs.Kept.{kept};
 ghost use Rattle.c_compute.specs.Parts.{part_shape, kept_part};
 
-use atac_base::place::NoMemory;
+use c_base::place::NoMemory;
 use c_syntax::tree::CType;
-use c_tree::tables::{FieldRow, Tables};
+use c_tables::tables::{FieldRow, Tables};
 
 /// A field of a structure: how many cells stand before it, and its type (C89, 3.5.2.1).
 #[derive(Clone, Copy, Drop)]

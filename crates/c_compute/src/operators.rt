@@ -4,17 +4,17 @@ ghost use Rattle.std.specs.Prelude.{◌≡◌};
 ghost use Rattle.c_arith.specs.Arith.{wrap};
 ghost use Rattle.c_syntax.specs.Shape.{TypeOf, int, pointer};
 ghost use Rattle.c_syntax.specs.View.{type_of};
-ghost use Rattle.c_kinds.specs.Kinds.{decay};
+ghost use Rattle.c_type_rules.specs.Kinds.{decay};
 ghost use Rattle.c_meaning.specs.Operators.{converted, is_true, fault_of, integer, of_integers, order_of, by_order, of_pointers, of_pointer_and_integer, of_integer_and_pointer, operated, stepped_by_one, element_pointer, promoted, of_one, target};
 ghost use Rattle.c_compute.specs.Narrow.{direction};
 
 use crate::ints::{is_int, is_narrow, of_ints};
 use crate::pointers::{compared, differed, stepped, stepped_back};
-use atac_base::place::IntKind;
 use c_arith::{ArithFault, ArithUnary, convert};
+use c_base::place::IntKind;
+use c_constants::operators::{compute, compute_one};
 use c_store::value::{Fault, Order, Pointer, Value};
 use c_syntax::tree::{BinaryOp, CType, StepOp, UnaryOp};
-use c_values::operators::{compute, compute_one};
 
 /// The value in the type: an integer modulo 2 to its width (C89, 3.2.1.2), a null constant as a null pointer (3.2.2.3).
 #[inline(always)]

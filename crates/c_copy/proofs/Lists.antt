@@ -1,6 +1,6 @@
 -- Lists of the code whose parts have the same shapes are the same lists of shapes.
 use Rattle.std.proofs.Common.{◌≡◌, refl, List, [], ◌∷◌, Option, map, ap, sym, ◌∙◌}
-use Rattle.atac_base.specs.declared.place.Pos.{Pos}
+use Rattle.c_base.specs.declared.place.Pos.{Pos}
 use Rattle.c_syntax.specs.declared.tree.Node.{Node}
 use Rattle.c_syntax.specs.declared.tree.Spec.{Spec}
 use Rattle.c_syntax.specs.declared.tree.Decl.{Decl}

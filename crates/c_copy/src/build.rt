@@ -8,7 +8,7 @@ ghost use Rattle.c_syntax.specs.Options.{maybe_members, maybe_rows};
 ghost use Rattle.c_copy.specs.Boxes.{boxed_init, boxed_node};
 
 use crate::parts::boxed;
-use atac_base::place::{NoMemory, Pos};
+use c_base::place::{NoMemory, Pos};
 use c_syntax::text::Text;
 use c_syntax::tree::{
     Decl, DeclForm, Declarator, Enumer, Expr, ExprProbe, Init, Named, Node, Note, Param, Params,

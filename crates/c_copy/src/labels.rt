@@ -5,7 +5,7 @@ ghost use Rattle.c_syntax.specs.View.{label_shape};
 
 use crate::parts::{boxed, put_inner};
 use crate::tree::copy_node;
-use atac_base::place::NoMemory;
+use c_base::place::NoMemory;
 use c_syntax::tree::Label;
 use std::alloc::Global;
 

@@ -3,9 +3,9 @@
 ghost use Rattle.std.specs.Prelude.{◌≡◌, ◌++◌, [], ◌∷◌, IfOk, OnOk};
 ghost use Rattle.c_syntax.specs.View.{note_shape};
 
-use atac_base::place::NoMemory;
-use c_kinds::kinds::copy;
+use c_base::place::NoMemory;
 use c_syntax::tree::{Named, Note, ProbeMark, ProgramLine, Star};
+use c_type_rules::kinds::copy;
 use std::alloc::Global;
 
 /// A value in a box.

@@ -10,7 +10,7 @@ use crate::build::{
     new_param, new_params, new_select, new_struct, new_type,
 };
 use crate::parts::{boxed, copy_maybe_named, copy_named, copy_note, copy_stars, put, put_inner};
-use atac_base::place::{NoMemory, Pos};
+use c_base::place::{NoMemory, Pos};
 use c_syntax::text::Text;
 use c_syntax::tree::{
     Decl, DeclForm, Declarator, Enumer, Expr, ExprProbe, Init, Node, Param, Params, Spec, SpecForm,

@@ -1,9 +1,9 @@
 -- A step and what the probes are told of it.
 use Rattle.std.proofs.Common.{◌≡◌, ℕ, ◌+◌, ◌*◌, ◌<◌, List, [], ◌++◌, take, drop, Option, Some, None, refl, sym, ap, subst, ◌∙◌, append-nil, append_assoc}
 use Rattle.std.proofs.lemmas.List.{append_cancel_left, take-append-drop}
-use Rattle.atac_base.specs.declared.probes.Event.{Event}
+use Rattle.c_events.specs.declared.events.Event.{Event}
 use Rattle.c_store.specs.declared.value.Value.{Value}
-use Rattle.c_tree.specs.Tables.{TablesShape}
+use Rattle.c_tables.specs.Tables.{TablesShape}
 use Rattle.c_meaning.specs.State.{State}
 use Rattle.c_meaning.specs.Results.{Got, Gives, Stops, then_do}
 use Rattle.c_meaning.specs.Knot.{Knot}
@@ -63,10 +63,10 @@ pub grown_then : {A B : Type 0} (l : List Event) (r : Got A) (go : A → State �
 grown_then l (Gives a s) go f kept = grown_later l s (go a s) f.front (kept a s)
 grown_then l (Stops why s) go f kept = record { front = f.front }
 
-pub work_grown : (t : TablesShape) (k : Knot) → Keeps IsLater IsLater IsLater k → (w : Work) (s : State) (l : List Event) → IsFront l s.log → Grown l (rest t k w s)
+pub work_grown : (t : TablesShape) (k : Knot) → Keeps IsLater IsLater IsLater IsLater k → (w : Work) (s : State) (l : List Event) → IsFront l s.log → Grown l (rest t k w s)
 work_grown t k keeps w s l f = grown_later l s (rest t k w s) f (work_later t k keeps w s)
 
-pub after_grown : (t : TablesShape) (k : Knot) → Keeps IsLater IsLater IsLater k → (a : stepping.Step) (w : Work) (s : State) (l : List Event) (r : Got (Option Value)) → rest_after t k a w s ≡ r → IsFront l s.log → Grown l r
+pub after_grown : (t : TablesShape) (k : Knot) → Keeps IsLater IsLater IsLater IsLater k → (a : stepping.Step) (w : Work) (s : State) (l : List Event) (r : Got (Option Value)) → rest_after t k a w s ≡ r → IsFront l s.log → Grown l r
 after_grown t k keeps a w s l r e f = subst (λ r. Grown l r) e (grown_later l s (rest_after t k a w s) f (after_later t k keeps a w s))
 
 -- some of the pending events

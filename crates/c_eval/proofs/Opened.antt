@@ -18,8 +18,8 @@ use Rattle.c_syntax.specs.View.{type_of, note_shape, expr_shape, node_shape, nod
 use Rattle.c_store.specs.declared.value.Value.{Value}
 use Rattle.c_store.specs.declared.value.Value.TheVariants.{Int, At}
 use Rattle.c_store.specs.declared.value.Pointer.{Pointer}
-use Rattle.c_tree.specs.Tables.{TablesShape}
-use Rattle.c_items.specs.declared.around.Taken.TheVariants.{Written, Changed, Addressed}
+use Rattle.c_tables.specs.Tables.{TablesShape}
+use Rattle.c_walk.specs.declared.around.Taken.TheVariants.{Written, Changed, Addressed}
 use Rattle.c_meaning.specs.State.{State}
 use Rattle.c_meaning.specs.Results.{Got, Gives, Stops, then_do, settled, present, needed}
 use Rattle.c_meaning.specs.Operators.{converted, of_one, is_true}
@@ -31,9 +31,10 @@ use Rattle.c_meaning.specs.Builtins.{called, params_of, as_parameter}
 use Rattle.c_meaning.specs.Expressions.{meaning, arguments, gives, operand, cast_value, last_test, assigned}
 use Rattle.c_compute.specs.Narrow.{direction}
 use Rattle.c_eval.specs.declared.frame.Wait.TheVariants as wait
-use Rattle.c_eval.specs.declared.frame.Reply.TheVariants as reply
-use Rattle.c_eval.specs.Rest.{replied, value, place, Val, Spot, Taker, to_value, waiting, combined, combined_into, stepped_there, is_front, one_more, on_operand, on_found}
-use Rattle.c_eval.specs.Forms.{is_address, is_deref}
+use Rattle.c_eval_once.specs.declared.reply.Reply.TheVariants as reply
+use Rattle.c_eval.specs.Rest.{Val, Spot, Taker, to_value, waiting, on_operand, on_found}
+use Rattle.c_eval_once.specs.Parts.{replied, value, place, combined, combined_into, stepped_there, is_front, one_more}
+use Rattle.c_eval_once.specs.Forms.{is_address, is_deref}
 use Rattle.c_eval.proofs.Steps.{then_then, needed_then, tested_then, last_then, at_place}
 
 module _ (t : TablesShape) (k : Knot) (e : Node) (s : State) (go : Taker) where

@@ -1,7 +1,7 @@
 -- What each form of a node is: a place, a node with a turn, or looked through.
 use Rattle.std.proofs.Common.{◌≡◌, List, [], ◌∷◌, ◌++◌, ap, ◌∙◌, Option, Some, None, Bool, true, false, refl, sym, arith}
 use Rattle.std.proofs.lemmas.Bool.{true≢false}
-use Rattle.atac_base.specs.declared.place.Pos.{Pos}
+use Rattle.c_base.specs.declared.place.Pos.{Pos}
 use Rattle.std.specs.Borrow.{Bor}
 use Rattle.c_syntax.specs.declared.text.Text.{Text}
 use Rattle.c_syntax.specs.declared.tree.Node.{Node}
@@ -16,11 +16,11 @@ use Rattle.c_syntax.specs.Shape.{NoteShape, NodeShape, NodeShapes, test, ExprSha
 use Rattle.c_store.specs.declared.value.Value.{Value}
 use Rattle.c_store.specs.declared.value.Pointer.{Pointer}
 use Rattle.c_syntax.specs.View.{note_shape, expr_shape, node_shape}
-use Rattle.c_tree.specs.Tables.{TablesShape}
+use Rattle.c_tables.specs.Tables.{TablesShape}
 use Rattle.c_meaning.specs.declared.end.Stop.TheVariants as stop
 use Rattle.c_meaning.specs.State.{State}
 use Rattle.c_meaning.specs.Results.{Stops, then_do, untyped}
-use Rattle.c_items.specs.Tests.{choosing}
+use Rattle.c_walk.specs.Tests.{choosing}
 use Rattle.c_meaning.specs.Operators.{is_true}
 use Rattle.c_meaning.specs.Firsts.{quiet, outcome}
 use Rattle.c_meaning.specs.Places.{logs, marks, fetched}
@@ -32,54 +32,17 @@ use Rattle.c_eval.specs.declared.frame.Wait.{Wait}
 use Rattle.c_eval.specs.declared.frame.Wait.TheVariants as wait
 use Rattle.c_eval.proofs.Steps.{then_then, needed_then, frames_push, weights_push}
 use Rattle.c_eval.specs.declared.frame.Frame.{Frame}
-use Rattle.c_eval.specs.Rest.{weights, waits, waiting, wait_weight, Val, Spot, Taker, to_value, to_spot, answer, all_do, truth_at, value, place, on_operand, on_found, on_second, on_written, on_combined, on_comma}
-use Rattle.c_eval.specs.Forms.{Kept, told, is_probe, takes_none, standing, has_place, is_bare, is_bare_place}
+use Rattle.c_eval.specs.Rest.{weights, waits, waiting, wait_weight, Val, Spot, Taker, to_value, to_spot, answer, all_do, on_operand, on_found, on_second, on_written, on_combined, on_comma}
+use Rattle.c_eval_once.specs.Parts.{truth_at, value, place}
+use Rattle.c_eval.specs.Forms.{is_probe, takes_none, has_place, is_bare, is_bare_place}
+use Rattle.c_eval_once.specs.Forms.{Kept, told, standing}
+use Rattle.c_eval_once.proofs.Standing.{read_at}
 
 no_yes : {A : Type 0} → false ≡ true → A
 no_yes e = absurd (true≢false (sym e))
 
 yes_no : {A : Type 0} → true ≡ false → A
 yes_no e = absurd (true≢false e)
-
--- a place's value is read from it
-pub read_at : (t : TablesShape) (k : Knot) (p o' : Pos) (n : Note) (e : Expr) (s : State) → standing n e ≡ true → value t k (node p o' (note_shape n) (expr_shape e)) s ≡ then_do (place t k (node p o' (note_shape n) (expr_shape e)) s) (fetched t (note_shape n) (marks used (node p o' (note_shape n) (expr_shape e))) (quiet 0))
-read_at t k p w n (expr.Number x) s is = no_yes is
-read_at t k p w n (expr.Char c) s is = no_yes is
-read_at t k p w n (expr.Str x) s is = no_yes is
-read_at t k p w (note.Typed y (Some v)) (expr.Name x) s is = refl
-read_at t k p w (note.Typed y None) (expr.Name x) s is = no_yes is
-read_at t k p w (note.Known y v) (expr.Name x) s is = no_yes is
-read_at t k p w note.Bare (expr.Name x) s is = no_yes is
-read_at t k p w n (expr.Paren' _ q o m a) s is = no_yes is
-read_at t k p w n (expr.Index' _ q o m a _ q' o' m' b) s is = refl
-read_at t k p w n (expr.Member' _ q o m a x r) s is = refl
-read_at t k p w n (expr.Arrow' _ q o m a x r) s is = refl
-read_at t k p w n (expr.Call' x _ args) s is = no_yes is
-read_at t k p w n (expr.Unary' front.AddressOf _ q o m a) s is = no_yes is
-read_at t k p w n (expr.Unary' front.Deref _ q o m a) s is = refl
-read_at t k p w n (expr.Unary' front.Plus _ q o m a) s is = no_yes is
-read_at t k p w n (expr.Unary' front.Minus _ q o m a) s is = no_yes is
-read_at t k p w n (expr.Unary' front.Flip _ q o m a) s is = no_yes is
-read_at t k p w n (expr.Unary' front.Not _ q o m a) s is = no_yes is
-read_at t k p w n (expr.Step' way.PreInc _ q o m a) s is = no_yes is
-read_at t k p w n (expr.Step' way.PreDec _ q o m a) s is = no_yes is
-read_at t k p w n (expr.Step' way.PostInc _ q o m a) s is = no_yes is
-read_at t k p w n (expr.Step' way.PostDec _ q o m a) s is = no_yes is
-read_at t k p w n (expr.SizeOf' _ q o m a) s is = no_yes is
-read_at t k p w n (expr.SizeOfType y) s is = no_yes is
-read_at t k p w n (expr.Cast' y _ q o m a) s is = no_yes is
-read_at t k p w n (expr.Binary' u _ q o m a _ q' o' m' b) s is = no_yes is
-read_at t k p w n (expr.And' _ q o m a _ q' o' m' b) s is = no_yes is
-read_at t k p w n (expr.Or' _ q o m a _ q' o' m' b) s is = no_yes is
-read_at t k p w n (expr.Cond' _ q o m a _ q' o' m' b _ q'' o'' m'' c) s is = no_yes is
-read_at t k p w n (expr.Assign' None _ q o m a _ q' o' m' b) s is = no_yes is
-read_at t k p w n (expr.Assign' (Some u) _ q o m a _ q' o' m' b) s is = no_yes is
-read_at t k p w n (expr.Comma' _ q o m a _ q' o' m' b) s is = no_yes is
-read_at t k p w n (expr.Probe' (probes.Block x) _ q o m a) s is = no_yes is
-read_at t k p w n (expr.Probe' (probes.Test x) _ q o m a) s is = no_yes is
-read_at t k p w n (expr.Probe' (probes.Select' x l cs) _ q o m a) s is = no_yes is
-read_at t k p w n (expr.Probe' (probes.Use x) _ q o m a) s is = refl
-read_at t k p w n (expr.Probe' (probes.Def x) _ q o m a) s is = refl
 
 -- another node takes a turn first
 pub value_no_turn : (t : TablesShape) (k : Knot) (p o' : Pos) (n : Note) (e : Expr) (s : State) → is_bare e ≡ true → standing n e ≡ false → s.turns ≡ 0 → value t k (node p o' (note_shape n) (expr_shape e)) s ≡ Stops stop.Turns s
@@ -120,46 +83,6 @@ value_no_turn t k p w n (expr.Probe' (probes.Test x) _ q o m a) s bare not none 
 value_no_turn t k p w n (expr.Probe' (probes.Select' x l cs) _ q o m a) s bare not none = no_yes bare
 value_no_turn t k p w n (expr.Probe' (probes.Use x) _ q o m a) s bare not none = yes_no not
 value_no_turn t k p w n (expr.Probe' (probes.Def x) _ q o m a) s bare not none = yes_no not
-
--- so does a place
-pub place_no_turn : (t : TablesShape) (k : Knot) (p o' : Pos) (n : Note) (e : Expr) (s : State) → has_place n e ≡ true → s.turns ≡ 0 → place t k (node p o' (note_shape n) (expr_shape e)) s ≡ Stops stop.Turns s
-place_no_turn t k p w n (expr.Number x) s is none = no_yes is
-place_no_turn t k p w n (expr.Char c) s is none = no_yes is
-place_no_turn t k p w n (expr.Str x) s is none = no_yes is
-place_no_turn t k p w (note.Typed y (Some v)) (expr.Name x) s is none = rw none refl
-place_no_turn t k p w (note.Typed y None) (expr.Name x) s is none = no_yes is
-place_no_turn t k p w (note.Known y v) (expr.Name x) s is none = no_yes is
-place_no_turn t k p w note.Bare (expr.Name x) s is none = no_yes is
-place_no_turn t k p w n (expr.Paren' _ q o m a) s is none = no_yes is
-place_no_turn t k p w n (expr.Index' _ q o m a _ q' o' m' b) s is none = rw none refl
-place_no_turn t k p w n (expr.Member' _ q o m a x r) s is none = rw none refl
-place_no_turn t k p w n (expr.Arrow' _ q o m a x r) s is none = rw none refl
-place_no_turn t k p w n (expr.Call' x _ args) s is none = no_yes is
-place_no_turn t k p w n (expr.Unary' front.AddressOf _ q o m a) s is none = no_yes is
-place_no_turn t k p w n (expr.Unary' front.Deref _ q o m a) s is none = rw none refl
-place_no_turn t k p w n (expr.Unary' front.Plus _ q o m a) s is none = no_yes is
-place_no_turn t k p w n (expr.Unary' front.Minus _ q o m a) s is none = no_yes is
-place_no_turn t k p w n (expr.Unary' front.Flip _ q o m a) s is none = no_yes is
-place_no_turn t k p w n (expr.Unary' front.Not _ q o m a) s is none = no_yes is
-place_no_turn t k p w n (expr.Step' way.PreInc _ q o m a) s is none = no_yes is
-place_no_turn t k p w n (expr.Step' way.PreDec _ q o m a) s is none = no_yes is
-place_no_turn t k p w n (expr.Step' way.PostInc _ q o m a) s is none = no_yes is
-place_no_turn t k p w n (expr.Step' way.PostDec _ q o m a) s is none = no_yes is
-place_no_turn t k p w n (expr.SizeOf' _ q o m a) s is none = no_yes is
-place_no_turn t k p w n (expr.SizeOfType y) s is none = no_yes is
-place_no_turn t k p w n (expr.Cast' y _ q o m a) s is none = no_yes is
-place_no_turn t k p w n (expr.Binary' u _ q o m a _ q' o' m' b) s is none = no_yes is
-place_no_turn t k p w n (expr.And' _ q o m a _ q' o' m' b) s is none = no_yes is
-place_no_turn t k p w n (expr.Or' _ q o m a _ q' o' m' b) s is none = no_yes is
-place_no_turn t k p w n (expr.Cond' _ q o m a _ q' o' m' b _ q'' o'' m'' c) s is none = no_yes is
-place_no_turn t k p w n (expr.Assign' None _ q o m a _ q' o' m' b) s is none = no_yes is
-place_no_turn t k p w n (expr.Assign' (Some u) _ q o m a _ q' o' m' b) s is none = no_yes is
-place_no_turn t k p w n (expr.Comma' _ q o m a _ q' o' m' b) s is none = rw none refl
-place_no_turn t k p w n (expr.Probe' (probes.Block x) _ q o m a) s is none = no_yes is
-place_no_turn t k p w n (expr.Probe' (probes.Test x) _ q o m a) s is none = no_yes is
-place_no_turn t k p w n (expr.Probe' (probes.Select' x l cs) _ q o m a) s is none = no_yes is
-place_no_turn t k p w n (expr.Probe' (probes.Use x) _ q o m a) s is none = no_yes is
-place_no_turn t k p w n (expr.Probe' (probes.Def x) _ q o m a) s is none = no_yes is
 
 -- and another node is none
 pub not_place : (t : TablesShape) (k : Knot) (p o' : Pos) (n : Note) (e : Expr) (s : State) → is_bare_place e ≡ true → has_place n e ≡ false → place t k (node p o' (note_shape n) (expr_shape e)) s ≡ untyped s
@@ -468,19 +391,6 @@ none_waits t k e wait.Truth go s f = refl
 none_waits t k e (wait.Into q) go s f = written_none (expr_shape e.form) q go s
 none_waits t k e (wait.Combine q x) go s f = combined_none (expr_shape e.form) q x go s
 none_waits t k e (wait.Argument kinds others done) go s f = refl
-
-pub plain_weight : (w : Wait) → is_probe w ≡ false → wait_weight w ≡ 1
-plain_weight wait.Probe f = yes_no f
-plain_weight wait.Operand f = refl
-plain_weight wait.Chosen f = refl
-plain_weight wait.Comma f = refl
-plain_weight wait.Place f = refl
-plain_weight wait.Read f = refl
-plain_weight (wait.Second v) f = refl
-plain_weight wait.Truth f = refl
-plain_weight (wait.Into q) f = refl
-plain_weight (wait.Combine q x) f = refl
-plain_weight (wait.Argument kinds others done) f = refl
 
 pub probe_is : (w : Wait) → is_probe w ≡ true → w ≡ wait.Probe
 probe_is wait.Probe f = refl

@@ -1,17 +1,17 @@
 -- One step keeps what is still to do.
 use Rattle.std.proofs.Common.{◌≡◌, ℕ, ◌+◌, ◌<◌, ◌≤◌, List, [], ◌∷◌, ◌++◌, Option, Some, None, Bool, refl, sym, ap, ◌∙◌, arith}
-use Rattle.atac_base.specs.declared.place.Pos.{Pos}
+use Rattle.c_base.specs.declared.place.Pos.{Pos}
 use Rattle.c_arith.specs.Arith.{truth}
 use Rattle.c_syntax.specs.declared.text.Text.{Text}
 use Rattle.c_syntax.specs.Shape.{NodeShape, node, ExprShape, leaf, paren, call, prefix, unary, before, size_of, size_of_type, cast, suffix, index, field, behind, dot, arrow, two, plain, and, or, assign, comma, choose, probe, simple, select, block, test, used, def, NoteShape, typed, known, bare, number, char, str, name}
 use Rattle.c_syntax.specs.declared.tree.UnaryOp.TheVariants as front
-use Rattle.c_values.specs.Probes.{probe_number_of}
+use Rattle.c_constants.specs.Probes.{probe_number_of}
 use Rattle.c_store.specs.declared.value.Value.{Value}
 use Rattle.c_store.specs.declared.value.Value.TheVariants.{Int}
 use Rattle.c_store.specs.declared.value.Pointer.{Pointer}
-use Rattle.c_tree.specs.Tables.{TablesShape}
-use Rattle.c_items.specs.declared.around.Taken.{Taken}
-use Rattle.c_items.specs.declared.around.Taken.TheVariants.{Read as Reading}
+use Rattle.c_tables.specs.Tables.{TablesShape}
+use Rattle.c_walk.specs.declared.around.Taken.{Taken}
+use Rattle.c_walk.specs.declared.around.Taken.TheVariants.{Read as Reading}
 use Rattle.c_meaning.specs.declared.end.Stop.{Stop}
 use Rattle.c_meaning.specs.State.{State}
 use Rattle.c_meaning.specs.Results.{Got, Gives, Stops, then_do, present, needed}
@@ -23,7 +23,8 @@ use Rattle.c_meaning.specs.Expressions.{meaning, form_meaning, gives, last_test,
 use Rattle.c_eval.specs.declared.frame.Frame.{Frame}
 use Rattle.c_eval.specs.declared.frame.Step.{Step}
 use Rattle.c_eval.specs.declared.frame.Step.TheVariants as step
-use Rattle.c_eval.specs.Rest.{value, place, Taker, does, all_do, weight, weights, Lower, truth_at}
+use Rattle.c_eval.specs.Rest.{Taker, does, all_do, weight, weights, Lower}
+use Rattle.c_eval_once.specs.Parts.{value, place, truth_at}
 
 -- ---- results
 

@@ -1,8 +1,8 @@
 -- How an advance leaves an expression: its step, of which the probes are told.
 use Rattle.std.specs.Prelude.{◌≡◌, ℕ, ◌<◌, List, Option, Some, None}
-use Rattle.atac_base.specs.declared.probes.Event.{Event}
+use Rattle.c_events.specs.declared.events.Event.{Event}
 use Rattle.c_store.specs.declared.value.Value.{Value}
-use Rattle.c_tree.specs.Tables.{TablesShape}
+use Rattle.c_tables.specs.Tables.{TablesShape}
 use Rattle.c_meaning.specs.declared.end.Stop.{Stop}
 use Rattle.c_meaning.specs.State.{State}
 use Rattle.c_meaning.specs.Results.{Got, Gives, Stops, then_do}

@@ -11,9 +11,9 @@ use Rattle.c_syntax.specs.View.{type_of, note_shape, expr_shape, node_shape, nod
 use Rattle.c_store.specs.declared.value.Value.{Value}
 use Rattle.c_store.specs.declared.value.Value.TheVariants.{Int, At}
 use Rattle.c_store.specs.declared.value.Pointer.{Pointer}
-use Rattle.c_tree.specs.Tables.{TablesShape}
-use Rattle.c_items.specs.declared.around.Taken.TheVariants.{Read as Reading}
-use Rattle.c_items.specs.Tests.{choosing}
+use Rattle.c_tables.specs.Tables.{TablesShape}
+use Rattle.c_walk.specs.declared.around.Taken.TheVariants.{Read as Reading}
+use Rattle.c_walk.specs.Tests.{choosing}
 use Rattle.c_meaning.specs.State.{State}
 use Rattle.c_meaning.specs.Results.{Got, Gives, Stops, then_do, untyped, settled, present, needed}
 use Rattle.c_meaning.specs.Operators.{converted, is_true, operated, stepped_by_one, element_pointer, of_one, target, pointed}
@@ -28,19 +28,12 @@ use Rattle.c_eval.specs.declared.frame.Wait.{Wait}
 use Rattle.c_eval.specs.declared.frame.Wait.TheVariants as wait
 use Rattle.c_eval.specs.declared.frame.Focus.{Focus}
 use Rattle.c_eval.specs.declared.frame.Focus.TheVariants as focus
-use Rattle.c_eval.specs.declared.frame.Reply.{Reply}
-use Rattle.c_eval.specs.declared.frame.Reply.TheVariants as reply
+use Rattle.c_eval_once.specs.declared.reply.Reply.{Reply}
+use Rattle.c_eval_once.specs.declared.reply.Reply.TheVariants as reply
 use Rattle.c_eval.specs.declared.frame.Step as stepping
 use Rattle.c_eval.specs.declared.frame.Step.TheVariants as step
 use Rattle.c_eval.specs.declared.work.Work.{Work}
-
--- ---- expressions in a run that isn't observed
-
-abbrev pub value : TablesShape → Knot → NodeShape → State → Got (Option Value)
-value t k e s = (meaning t k e).value (quiet 0) s
-
-abbrev pub place : TablesShape → Knot → NodeShape → State → Got Pointer
-place t k e s = (meaning t k e).place Reading (quiet 0) s
+use Rattle.c_eval_once.specs.Parts.{value, place, is_front, stepped_there, combined, combined_into, element_at, truth_at, probed, replied, one_more}
 
 -- ---- what waits
 
@@ -74,37 +67,6 @@ to_spot go q s = go (Spot q) s
 abbrev pub answer : Taker
 answer = on_any Gives
 
--- ---- parts of what is still to do
-
--- a step stands in front of its operand
-abbrev pub is_front : StepOp → Bool
-is_front way.PreInc = true
-is_front way.PreDec = true
-is_front way.PostInc = false
-is_front way.PostDec = false
-
--- the operand at that place is stepped
-abbrev pub stepped_there : Bool → Step → NodeShape → Pointer → State → Got (Option Value)
-stepped_there front u a q s =
-    then_do (loaded (marks used a) (quiet 0) q s) (λ x s.
-    then_do (settled (stepped_by_one u (operand a) x) s) (λ v s.
-    then_do (written (type_at a) (marks def a) (quiet 0) q v s) (stepped_from front x)))
-
--- two values meet in an operator
-abbrev pub combined : BinaryOp → NodeShape → NodeShape → Value → Value → State → Got (Option Value)
-combined u a b v w s = then_do (settled (operated u (operand a) (operand b) v w) s) gives
-
--- so do a place's value and another one, and the place is written
-abbrev pub combined_into : BinaryOp → NodeShape → NodeShape → Pointer → Value → Value → State → Got (Option Value)
-combined_into u a b q x y s = then_do (settled (operated u (operand a) (operand b) x y) s) (λ v. written (type_at a) (marks def a) (quiet 0) q v)
-
--- an element is pointed to
-abbrev pub element_at : NodeShape → NodeShape → Value → Value → State → Got Pointer
-element_at a b v w s = then_do (settled (element_pointer (operand a) (operand b) v w) s) (λ v s. settled (target v) s)
-
-abbrev pub truth_at : Value → State → Got (Option Value)
-truth_at v s = gives (Int (truth (is_true v))) s
-
 -- ---- frames, by what is waited for
 
 abbrev pub nothing_waits : Taker
@@ -124,12 +86,6 @@ on_operand t k n (two comma a b) go = on_any (λ v s. then_do (value t k b s) (t
 on_operand t k n (choose a b c) go = on_value (λ v s.
     then_do (then_do (if is_true v then value t k b s else value t k c s) (λ v. Gives (option_map (converted (kind_noted n)) v))) (to_value go))
 on_operand t k n f go = nothing_waits
-
--- the value in a probe
-abbrev pub probed : ExprShape → Value → State → Got (Option Value)
-probed (probe (simple test x) a) v s = logs (log_test (outcome (is_true v))) (x ∷ []) s (gives v)
-probed (probe (select x cs) a) v s = logs (log_test (chosen_among (choosing a) v (select_constants (choosing a) cs))) (x ∷ []) s (gives v)
-probed f v s = untyped s
 
 -- the place of the operand
 abbrev pub on_found : TablesShape → Knot → ExprShape → Taker → Taker
@@ -210,15 +166,6 @@ rest_after t k step.More w s = rest t k w s
 rest_after t k (step.Answer v) w s = Gives v s
 rest_after t k (step.Call f args) w s = then_do (k.call f args.items s) (to_value (left t k w))
 rest_after t k (step.Stopped why) w s = Stops why s
-
--- a value, or why the run stops
-abbrev pub replied : Reply → State → Got Value
-replied (reply.Value v) s = Gives v s
-replied (reply.Stopped why) s = Stops why s
-
--- with one more turn
-abbrev pub one_more : State → State
-one_more s = record s { turns = suc s.turns }
 
 -- ---- what is open
 

@@ -1,18 +1,18 @@
 //! The step of an expression, of which the probes are told.
 ghost use Rattle.std.specs.Prelude.{◌≡◌, ◌+◌, ◌*◌, ◌++◌, List, [], IfOk, OnOk, OnErr};
-ghost use Rattle.atac_base.specs.declared.probes.Event.{Event};
+ghost use Rattle.c_events.specs.declared.events.Event.{Event};
 ghost use Rattle.c_meaning.specs.Knot.{Knot};
 ghost use Rattle.c_meaning.specs.Lasting.{Keeps, IsFront, IsLater};
 ghost use Rattle.c_meaning.specs.Runs.{active_name, stopped_end};
 ghost use Rattle.c_world.specs.World.{state_of, tables_of};
 ghost use Rattle.c_eval.specs.Rest.{rest, size};
-ghost use Rattle.c_eval.specs.Forms.{Kept};
+ghost use Rattle.c_eval_once.specs.Forms.{Kept};
 ghost use Rattle.c_eval.specs.Advance.{Grown, advance_of, ComesTo, size_beyond, Falls};
 
 use crate::frame::Step;
 use crate::work::Work;
-use atac_base::place::NoMemory;
 use atac_base::probes::Probes;
+use c_base::place::NoMemory;
 use c_meaning::end::{End, Stop};
 use c_store::value::Value;
 use c_syntax::text::Text;
@@ -66,7 +66,7 @@ impl<'p> Work<'p> {
         probes: &mut P,
     ) -> Result<Advance, NoMemory>
         ensures rest { IfOk result (λ a. (k : Knot) (h l : List Event) → P.stands_for probes.old (h ++ l) → (l' : List Event) × P.stands_for probes.new (h ++ l') × ComesTo (tables_of world.old) k a self.new (state_of world.new l') (rest (tables_of world.old) k self.old (state_of world.old l))) }
-        ensures front { OnErr result ((k : Knot) → Keeps IsLater IsLater IsLater k → (h l : List Event) → P.stands_for probes.old (h ++ l) → (l' : List Event) × P.stands_for probes.new (h ++ l') × Grown l' (rest (tables_of world.old) k self.old (state_of world.old l))) }
+        ensures front { OnErr result ((k : Knot) → Keeps IsLater IsLater IsLater IsLater k → (h l : List Event) → P.stands_for probes.old (h ++ l) → (l' : List Event) × P.stands_for probes.new (h ++ l') × Grown l' (rest (tables_of world.old) k self.old (state_of world.old l))) }
         ensures falls { IfOk result (λ a. Falls a (4 * world.new.turns + size_beyond a self.new) (4 * world.old.turns + size self.old)) }
         ensures kept { OnOk result (Kept world.old world.new) }
         ensures told { OnOk result (world.new.pending.items ≡ []) }

@@ -50,13 +50,6 @@ pub enum Step {
     Stopped(Stop),
 }
 
-/// A value, or why the run stops.
-#[derive(Clone, Copy)]
-pub enum Reply {
-    Value(Value),
-    Stopped(Stop),
-}
-
 /// A node behind its parentheses and probes, or a stop at one of these.
 #[derive(Clone, Copy)]
 pub enum Passed<'p> {

@@ -2,11 +2,5 @@
 #![tactic(auto)]
 
 pub mod advance;
-mod at_once;
-mod builtins;
-pub mod direct;
 pub mod frame;
-mod leaf;
-mod number;
-mod telling;
 pub mod work;

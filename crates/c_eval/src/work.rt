@@ -1,13 +1,16 @@
+//! One expression, as far as it has come.
+
 ghost use Rattle.std.specs.Prelude.{◌≡◌, ◌++◌, [], ◌∷◌, ℕ, ◌<◌, ◌≤◌, ◌+◌, ◌*◌, List, Option, Some, None, true, false, IfOk, OnOk};
-ghost use Rattle.atac_base.specs.declared.probes.Event.{Event};
+ghost use Rattle.c_events.specs.declared.events.Event.{Event};
 ghost use Rattle.c_syntax.specs.View.{node_shape};
-ghost use Rattle.c_tree.specs.Tables.{TablesShape, tables_shape};
+ghost use Rattle.c_tables.specs.Tables.{TablesShape, tables_shape};
 ghost use Rattle.c_meaning.specs.State.{State};
 ghost use Rattle.c_meaning.specs.Results.{then_do};
 ghost use Rattle.c_meaning.specs.Knot.{Knot};
 ghost use Rattle.c_world.specs.World.{state_of};
-ghost use Rattle.c_eval.specs.Rest.{value, place, Val, Spot, to_value, to_spot, waiting, left, rest, rest_after, wait_weight, weights, size, size_after, Lower, replied};
-ghost use Rattle.c_eval.specs.Forms.{Kept};
+ghost use Rattle.c_eval.specs.Rest.{Val, Spot, to_value, to_spot, waiting, left, rest, rest_after, wait_weight, weights, size, size_after, Lower};
+ghost use Rattle.c_eval_once.specs.Parts.{value, place, replied};
+ghost use Rattle.c_eval_once.specs.Forms.{Kept};
 
 mod binary;
 mod calling;
@@ -20,12 +23,13 @@ mod settling;
 mod starting;
 mod taking;
 
-use crate::frame::{Focus, Frame, Reply, Step, Wait};
-use atac_base::place::NoMemory;
+use crate::frame::{Focus, Frame, Step, Wait};
+use c_base::place::NoMemory;
+use c_eval_once::reply::Reply;
 use c_meaning::end::Stop;
 use c_store::value::{Fault, Pointer, Value};
 use c_syntax::tree::Node;
-use c_tree::tables::Tables;
+use c_tables::tables::Tables;
 use c_world::world::World;
 use std::alloc::Global;
 use std::mem;

@@ -3,7 +3,7 @@ use Rattle.std.proofs.Common.{◌≡◌, ℕ, ◌≤◌, ◌<◌, List, [], ◌�
 use Rattle.std.proofs.lemmas.List.{append_assoc, length-append}
 use Rattle.std.proofs.lemmas.List.Elements.{All-contains}
 use Rattle.std.specs.List.{Contains}
-use Rattle.atac_base.specs.declared.place.Pos.{Pos}
+use Rattle.c_base.specs.declared.place.Pos.{Pos}
 use Rattle.c_syntax.specs.declared.token.Token.{Token}
 use Rattle.c_syntax.specs.declared.token.TokenKind.{TokenKind}
 use Rattle.c_syntax.specs.Forms.{Form, nothing, is, at, starts, seq, Written, head, a_token, no_token, place}
@@ -13,8 +13,8 @@ use Rattle.c_lex.specs.declared.lexer.TextKind.{TextKind}
 use Rattle.c_lex.specs.Scan.{scanned}
 use Rattle.c_lex.specs.Scan as lexed
 use Rattle.c_lex.specs.Given.{given}
-use Rattle.c_forms.specs.StmtParts.{Front, SyntaxAt}
-use Rattle.c_tree.specs.Tables.{TablesShape}
+use Rattle.c_grammar_stmt.specs.StmtParts.{Front, SyntaxAt}
+use Rattle.c_tables.specs.Tables.{TablesShape}
 use Rattle.c_tree.specs.Units.{typed_unit, complaints, comes_before, order}
 use Rattle.c_types.specs.Checked.{IsFirstAt}
 use Rattle.c_front.specs.Front.{Understanding, program, refused, AreTokens, IsUnit, IsNoUnit, HasProgram, IsRefusedAt, by_lexer, by_parser, by_checker, IsRead, IsOne}

@@ -1,6 +1,6 @@
 -- What a text is: a program, or refused.
 use Rattle.std.specs.Prelude.{◌≡◌, ◌<◌, ℕ, List, []}
-use Rattle.atac_base.specs.declared.place.Pos.{Pos}
+use Rattle.c_base.specs.declared.place.Pos.{Pos}
 use Rattle.c_syntax.specs.declared.token.Token.{Token}
 use Rattle.c_syntax.specs.Shape.{UnitShape}
 use Rattle.c_syntax.specs.Shaped.{ShapedUnit}
@@ -10,8 +10,8 @@ use Rattle.c_lex.specs.declared.lexer.TextKind.{TextKind}
 use Rattle.c_lex.specs.Scan.{scanned}
 use Rattle.c_lex.specs.Scan as lexed
 use Rattle.c_lex.specs.Given.{given}
-use Rattle.c_forms.specs.StmtParts.{NoUnit, SyntaxAt}
-use Rattle.c_tree.specs.Tables.{TablesShape, tables_shape}
+use Rattle.c_grammar_stmt.specs.StmtParts.{NoUnit, SyntaxAt}
+use Rattle.c_tables.specs.Tables.{TablesShape, tables_shape}
 use Rattle.c_tree.specs.Units.{typed_unit, complaints}
 use Rattle.c_tree.specs.declared.program.Program.{Program}
 use Rattle.c_types.specs.Checked.{IsFirstAt}

@@ -1,16 +1,17 @@
+//! The front end: from a text to a program, or its first refusal.
+
 ghost use Rattle.std.specs.Prelude.{◌≤◌, length, IfOk, IfErr, MatchResult};
 ghost use Rattle.c_syntax.specs.View.{unit_shape};
 ghost use Rattle.c_tree.specs.Programs.{IsSound};
 ghost use Rattle.c_front.specs.Front.{AreTokens, IsUnit, GivesProgram, IsRefused, IsOne};
 
-use atac_base::place::Pos;
+use c_base::place::Pos;
 use c_lex::{LexRefusal, TextKind, lex};
-use c_parse::refusal::ParseRefusal;
-use c_parse::unit::parse;
+use c_parse::{ParseRefusal, parse};
 use c_syntax::token::Token;
 use c_syntax::tree::Unit;
 use c_tree::program::Program;
-use c_types::check::{TypeRefusal, check};
+use c_types::{TypeRefusal, check};
 use std::alloc::Global;
 
 /// Why a text is no program: the number and the place of its refusal; or there is no memory. The numbers 1 to 9 are

@@ -3,3 +3,5 @@
 
 pub mod front;
 pub mod names;
+
+pub use front::{FrontRefusal, read};

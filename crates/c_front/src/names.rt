@@ -1,3 +1,5 @@
+//! The names of refusals.
+
 ghost use Rattle.std.specs.Prelude.{◌≡◌};
 ghost use Rattle.c_front.specs.Names.{name};
 

@@ -1,6 +1,6 @@
 -- Steps of the reader in the form in which the code takes them.
 use Rattle.std.proofs.Common.{◌≡◌, ℕ, suc, ◌+◌, ◌≤◌, ◌<◌, List, [], ◌∷◌, ◌++◌, length, Option, Some, None, Bool, true, false, refl, sym, ap, ◌∙◌, subst, append_assoc, append-nil}
-use Rattle.atac_base.specs.declared.place.Pos.{Pos}
+use Rattle.c_base.specs.declared.place.Pos.{Pos}
 use Rattle.c_syntax.specs.declared.tree.Declarator.{Declarator}
 use Rattle.c_syntax.specs.declared.tree.Enumer.{Enumer, out-Enumer}
 use Rattle.c_syntax.specs.declared.tree.Param.{Param}
@@ -22,20 +22,8 @@ use Rattle.c_grammar.proofs.ListSteps.{LedFrom, led_start, listing_start, Declar
 
 -- a list of expressions, by its first one and what is read behind it
 
-pub listing_closed : (n d g : ℕ) (a : Node) (l : List Node) (s : NodeShapes) (ts x y : List Token) → Finds (reads n d g) ts (Some (node_shape a, x)) → l ≡ a ∷ [] → ((R : ℕ → List Token → Got NodeShapes) (t : List Token) → LedFrom n d g R l t x → Finds R t (Some (s, y))) → Finds (listing n d g) ts (Some (s, y))
-listing_closed n d g a l s ts x y p same f = f (listing n d g) ts (subst (λ l. LedFrom n d g (listing n d g) l ts x) (sym same) (listing_start n d g a ts x p))
-
-pub listing_failed : (n d g : ℕ) (a : Node) (l : List Node) (ts x : List Token) → Finds (reads n d g) ts (Some (node_shape a, x)) → l ≡ a ∷ [] → ((R : ℕ → List Token → Got NodeShapes) (t : List Token) → LedFrom n d g R l t x → Finds R t None) → Finds (listing n d g) ts None
-listing_failed n d g a l ts x p same f = f (listing n d g) ts (subst (λ l. LedFrom n d g (listing n d g) l ts x) (sym same) (listing_start n d g a ts x p))
-
 pub listing_fails : (n d g : ℕ) (ts : List Token) → Finds (reads n d g) ts None → Finds (listing n d g) ts None
 listing_fails n d g ts p = then_fails (reads n d g) (λ k. one_more (λ r. reads_led n d g k r)) ts p
-
-pub constants_found : (d g : ℕ) (l : List Node) (s : NodeShapes) (x y : List Token) → l ≡ [] → ((R : ℕ → List Token → Got NodeShapes) (t : List Token) → LedFrom 2 d (suc g) R l t x → Finds R t (Some (s, y))) → Finds (constants d g) x (Some (s, y))
-constants_found d g l s x y same f = f (constants d g) x (subst (λ l. LedFrom 2 d (suc g) (reads_led 2 d (suc g)) l x x) (sym same) (led_start 2 d (suc g) x))
-
-pub front_select_failed : (d g : ℕ) (ts r x : List Token) (n : Text) (l : List Node) → start ts ≡ at_select r → g < most_probes → numbered r ≡ Some (n, x) → l ≡ [] → ((R : ℕ → List Token → Got NodeShapes) (t : List Token) → LedFrom 2 d (suc g) R l t x → Finds R t None) → Finds (fronts d g) ts None
-front_select_failed d g ts r x n l e few m same f = front_select_fails d g ts r x n e few m (f (constants d g) x (subst (λ l. LedFrom 2 d (suc g) (reads_led 2 d (suc g)) l x x) (sym same) (led_start 2 d (suc g) x)))
 
 -- a type name and the closing parenthesis
 
@@ -69,17 +57,6 @@ declarators_on now' s d g before now a ts rest r x p e q same = record {
   leads = declarators_more (p.further ++ a ∷ []) s d g p.further a ts rest r x p.leads e q refl;
 }
 
-pub declarators_read : (s : Standing) (d g : ℕ) (before now : List Declarator) (ts rest : List Token) → DeclaratorsSoFar s d g before now ts rest → after marks.Comma rest ≡ None → DeclaratorsRead s d g before now ts rest
-declarators_read s d g before now ts rest p e = record { further = p.further; joined = p.joined; finds = declarators_done s d g p.further ts rest p.leads e }
-
-pub declarators_unread : (s : Standing) (d g : ℕ) (before now : List Declarator) (ts rest r : List Token) → DeclaratorsSoFar s d g before now ts rest → after marks.Comma rest ≡ Some r → Finds (reads_declarator s d g) r None → Finds (reads_declarators s d g) ts None
-declarators_unread s d g before now ts rest r p e q = declarators_failed s d g p.further ts rest r p.leads e q
-
--- a declaration, by all its declarators
-pub declaring_made : (s : Standing) (d g : ℕ) (p : Pos) (specs : SpecShapes) (a : Declarator) (before now : List Declarator) (ts x y : List Token) → DeclaratorsRead s d g before now ts x → before ≡ a ∷ [] → after marks.Semicolon x ≡ Some y → Finds (declaring s d g p specs (declarator_shape a)) ts (Some (decl p specs (declarator_list now), y))
-declaring_made s d g p specs a before now ts x y r same e =
-    subst (λ l. Finds (declaring s d g p specs (declarator_shape a)) ts (got (decl p specs (declarator_list l)) y)) (sym (r.joined ∙ ap (λ l. l ++ r.further) same)) (declaring_found s d g p specs (declarator_shape a) ts x y (declarator_list r.further) r.finds e)
-
 pub declaring_unclosed : (s : Standing) (d g : ℕ) (p : Pos) (specs : SpecShapes) (t : DeclaratorShape) (before now : List Declarator) (ts x : List Token) → DeclaratorsRead s d g before now ts x → after marks.Semicolon x ≡ None → Finds (declaring s d g p specs t) ts None
 declaring_unclosed s d g p specs t before now ts x r e = declaring_open s d g p specs t ts x (declarator_list r.further) r.finds e
 
@@ -92,12 +69,6 @@ pub inits_first : (l : List Init) (d g : ℕ) (a : Init) (ts x : List Token) →
 inits_first l d g a ts x p same = subst (λ l. InitsFrom d g l ts x) (sym same) (inits_start d g a ts x p)
 
 -- ENUMERATORS
-
-pub enumers_next : (l' : List Enumer) (d g : ℕ) (l : List Enumer) (a : Enumer) (x : Text) (ts rest r y z : List Token) → EnumersFrom d g (enumerators d g) l ts rest → a_word rest ≡ Some (x, r) → Finds (value d g) r (Some (maybe_node (out-Enumer a).value, y)) → (out-Enumer a).name ≡ plain_name (place rest) x → l' ≡ l ++ a ∷ [] → after marks.Comma y ≡ Some z → EnumersFrom d g (enumerators d g) l' ts z
-enumers_next l' d g l a x ts rest r y z p e q named same c = enumers_comma d g l' ts y z (enumers_more l' d g l a x ts rest r y p e q named same) c
-
-pub enumers_last : (l' : List Enumer) (d g : ℕ) (l : List Enumer) (a : Enumer) (x : Text) (ts rest r y : List Token) → EnumersFrom d g (enumerators d g) l ts rest → a_word rest ≡ Some (x, r) → Finds (value d g) r (Some (maybe_node (out-Enumer a).value, y)) → (out-Enumer a).name ≡ plain_name (place rest) x → l' ≡ l ++ a ∷ [] → after marks.Comma y ≡ None → Finds (enumerators d g) ts (Some (enumer_list l', y))
-enumers_last l' d g l a x ts rest r y p e q named same c = enumers_done d g l' ts y (enumers_more l' d g l a x ts rest r y p e q named same) c
 
 -- ARRAY LENGTHS, by a count of them
 

@@ -2,7 +2,7 @@
 pub use Rattle.c_grammar.specs.Parts.{one_length, structure, enumeration, fields, enumerators, value, behind, ending, declaring, params_of, inits_of}
 use Rattle.std.proofs.Common.{◌≡◌, ℕ, zero, suc, ◌+◌, ◌≤◌, ◌<◌, List, [], ◌∷◌, length, Option, Some, None, Bool, true, false, refl, sym, ap, ◌∙◌, subst, arith}
 use Rattle.std.specs.Prelude.{nat_lt}
-use Rattle.atac_base.specs.declared.place.Pos.{Pos}
+use Rattle.c_base.specs.declared.place.Pos.{Pos}
 use Rattle.c_syntax.specs.declared.text.Text.{Text}
 use Rattle.c_syntax.specs.declared.token.Mark.TheVariants as marks
 use Rattle.c_syntax.specs.declared.token.Key.{Key}
@@ -179,13 +179,6 @@ to_list d g ts x y n z e b p =
 abbrev listed_fields : ℕ → ℕ → ℕ → Option Named → List Token → Got SpecShape
 listed_fields d g k n l = where_true (is_spec (spec_head l)) (then_go (closed marks.RightBrace (fields d g) k l) (struct_made n))
 
-pub struct_deep : (d g : ℕ) (ts x y : List Token) (n : Option Named) → tag ts ≡ Some (n, x) → after marks.LeftBrace x ≡ Some y → 400 ≤ d → Finds (structure d g) ts None
-struct_deep d g ts x y n e b high = to_list d g ts x y n None e b (record { from = 0; holds = λ k h. high_none d 400 (listed_fields d g k n y) high })
-
-pub struct_bare : (d g : ℕ) (ts x y : List Token) (n : Option Named) → tag ts ≡ Some (n, x) → after marks.LeftBrace x ≡ Some y → d < 400 → is_spec (spec_head y) ≡ false → Finds (structure d g) ts None
-struct_bare d g ts x y n e b low f =
-    to_list d g ts x y n None e b (record { from = 0; holds = λ k h. low_go d 400 (listed_fields d g k n y) low ∙ ap (λ c. where_true c (then_go (closed marks.RightBrace (fields d g) k y) (struct_made n))) f })
-
 with_fields : (d g : ℕ) (ts x y : List Token) (n : Option Named) (z : Got DeclShapes) → tag ts ≡ Some (n, x) → after marks.LeftBrace x ≡ Some y → d < 400 → is_spec (spec_head y) ≡ true → Finds (closed marks.RightBrace (fields d g)) y z → Finds (structure d g) ts (then_go z (struct_made n))
 with_fields d g ts x y n z e b low f p =
     to_list d g ts x y n (then_go z (struct_made n)) e b (record {
@@ -195,9 +188,6 @@ with_fields d g ts x y n z e b low f p =
 
 pub struct_found : (d g : ℕ) (ts x y z w : List Token) (n : Option Named) (ds : DeclShapes) → tag ts ≡ Some (n, x) → after marks.LeftBrace x ≡ Some y → d < 400 → is_spec (spec_head y) ≡ true → Finds (fields d g) y (Some (ds, z)) → after marks.RightBrace z ≡ Some w → Finds (structure d g) ts (Some (struct n (members ds), w))
 struct_found d g ts x y z w n ds e b low f p c = with_fields d g ts x y n (got ds w) e b low f (closed_found marks.RightBrace (fields d g) y ds z w p c)
-
-pub struct_fails : (d g : ℕ) (ts x y : List Token) (n : Option Named) → tag ts ≡ Some (n, x) → after marks.LeftBrace x ≡ Some y → d < 400 → is_spec (spec_head y) ≡ true → Finds (fields d g) y None → Finds (structure d g) ts None
-struct_fails d g ts x y n e b low f p = with_fields d g ts x y n None e b low f (closed_fails marks.RightBrace (fields d g) y p)
 
 pub struct_open : (d g : ℕ) (ts x y z : List Token) (n : Option Named) (ds : DeclShapes) → tag ts ≡ Some (n, x) → after marks.LeftBrace x ≡ Some y → d < 400 → is_spec (spec_head y) ≡ true → Finds (fields d g) y (Some (ds, z)) → after marks.RightBrace z ≡ None → Finds (structure d g) ts None
 struct_open d g ts x y z n ds e b low f p c = with_fields d g ts x y n None e b low f (closed_open marks.RightBrace (fields d g) y ds z p c)
@@ -216,9 +206,6 @@ with_rows d g ts x y n z e b p =
 
 pub enum_found : (d g : ℕ) (ts x y z w : List Token) (n : Option Named) (es : EnumerShapes) → tag ts ≡ Some (n, x) → after marks.LeftBrace x ≡ Some y → Finds (enumerators d g) y (Some (es, z)) → after marks.RightBrace z ≡ Some w → Finds (enumeration d g) ts (Some (enum n (rows es), w))
 enum_found d g ts x y z w n es e b p c = with_rows d g ts x y n (got es w) e b (closed_found marks.RightBrace (enumerators d g) y es z w p c)
-
-pub enum_fails : (d g : ℕ) (ts x y : List Token) (n : Option Named) → tag ts ≡ Some (n, x) → after marks.LeftBrace x ≡ Some y → Finds (enumerators d g) y None → Finds (enumeration d g) ts None
-enum_fails d g ts x y n e b p = with_rows d g ts x y n None e b (closed_fails marks.RightBrace (enumerators d g) y p)
 
 pub enum_open : (d g : ℕ) (ts x y z : List Token) (n : Option Named) (es : EnumerShapes) → tag ts ≡ Some (n, x) → after marks.LeftBrace x ≡ Some y → Finds (enumerators d g) y (Some (es, z)) → after marks.RightBrace z ≡ None → Finds (enumeration d g) ts None
 enum_open d g ts x y z n es e b p c = with_rows d g ts x y n None e b (closed_open marks.RightBrace (enumerators d g) y es z p c)
@@ -351,13 +338,6 @@ pub declarator_stars_fail : (s : Standing) (d g : ℕ) (ts : List Token) → d <
 declarator_stars_fail s d g ts low p =
     find_from (reads_declarator s d g) ts None p.from (λ j h. low_go d 400 (then_go (reads_stars (suc d) j ts) (declarator_name s (behinds s d g j))) low ∙ ap (λ f. then_go f (declarator_name s (behinds s d g j))) (p.holds j h))
 
-pub declarator_name_fails : (s : Standing) (d g : ℕ) (ts x : List Token) (ss : List Star) → d < 400 → Finds (reads_stars (suc d)) ts (Some (ss, x)) → maybe_named x ≡ None → Finds (reads_declarator s d g) ts None
-declarator_name_fails s d g ts x ss low p e = from_stars s d g ts x ss None low p (record { from = 0; holds = λ k h. ap (λ f. then_go f (declarator_behind s (behinds s d g k) ss)) e })
-
-pub declarator_unfit : (s : Standing) (d g : ℕ) (ts x y : List Token) (ss : List Star) (n : Option Named) → d < 400 → Finds (reads_stars (suc d)) ts (Some (ss, x)) → maybe_named x ≡ Some (n, y) → name_fits s n ≡ false → Finds (reads_declarator s d g) ts None
-declarator_unfit s d g ts x y ss n low p e b =
-    from_stars s d g ts x ss None low p (record { from = 0; holds = λ k h. ap (λ f. then_go f (declarator_behind s (behinds s d g k) ss)) e ∙ ap (λ b. where_true b (then_go (behind s d g (length ss) k y) (declarator_init s (behinds s d g k) ss n))) b })
-
 pub declarator_found : (s : Standing) (d g : ℕ) (ts x y w : List Token) (ss : List Star) (n : Option Named) (f : DeclFormShape) (z : Got DeclaratorShape) → d < 400 → Finds (reads_stars (suc d)) ts (Some (ss, x)) → maybe_named x ≡ Some (n, y) → name_fits s n ≡ true → Finds (behind s d g (length ss)) y (Some (f, w)) → Finds (ending s d g ss n f) w z → Finds (reads_declarator s d g) ts z
 declarator_found s d g ts x y w ss n f z low p e b q r =
     from_stars s d g ts x ss z low p (record {
@@ -367,16 +347,6 @@ declarator_found s d g ts x y w ss n f z low p e b q r =
           ∙ ap (λ b. where_true b (then_go (behind s d g (length ss) k y) (declarator_init s (behinds s d g k) ss n))) b
           ∙ ap (λ f. then_go f (declarator_init s (behinds s d g k) ss n)) (q.holds k (omega (arith, h)))
           ∙ r.holds k (omega (arith, h));
-    })
-
-pub declarator_behind_fails : (s : Standing) (d g : ℕ) (ts x y : List Token) (ss : List Star) (n : Option Named) → d < 400 → Finds (reads_stars (suc d)) ts (Some (ss, x)) → maybe_named x ≡ Some (n, y) → name_fits s n ≡ true → Finds (behind s d g (length ss)) y None → Finds (reads_declarator s d g) ts None
-declarator_behind_fails s d g ts x y ss n low p e b q =
-    from_stars s d g ts x ss None low p (record {
-      from = q.from;
-      holds = λ k h.
-          ap (λ f. then_go f (declarator_behind s (behinds s d g k) ss)) e
-          ∙ ap (λ b. where_true b (then_go (behind s d g (length ss) k y) (declarator_init s (behinds s d g k) ss n))) b
-          ∙ ap (λ f. then_go f (declarator_init s (behinds s d g k) ss n)) (q.holds k h);
     })
 
 pub declarators_end : (s : Standing) (d g : ℕ) (ts : List Token) → after marks.Comma ts ≡ None → Finds (reads_declarators s d g) ts (Some (no_declarators, ts))

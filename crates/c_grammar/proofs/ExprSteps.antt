@@ -3,7 +3,7 @@ pub use Rattle.c_grammar.specs.Parts.{closed, grown, whole, arguments, listing, 
 use Rattle.std.proofs.Common.{◌≡◌, ℕ, zero, suc, ◌+◌, ◌≤◌, ◌<◌, List, Option, Some, None, Bool, true, false, refl, sym, ap, ◌∙◌, subst, arith, le-ltb}
 use Rattle.std.proofs.lemmas.Bool.{lt-ltb, le-leb, lt-leb}
 use Rattle.std.specs.Prelude.{nat_lt, nat_le, max}
-use Rattle.atac_base.specs.declared.place.Pos.{Pos}
+use Rattle.c_base.specs.declared.place.Pos.{Pos}
 use Rattle.c_syntax.specs.declared.text.Text.{Text}
 use Rattle.c_syntax.specs.declared.token.Mark.{Mark}
 use Rattle.c_syntax.specs.declared.token.Mark.TheVariants as marks
@@ -40,10 +40,6 @@ closed_fails m f ts p = then_fails f (λ k. expect m) ts p
 
 pub closed_open : {A : Type 0} (m : Mark) (f : ℕ → List Token → Got A) (ts : List Token) (a : A) (x : List Token) → Finds f ts (got a x) → after m x ≡ None → Finds (closed m f) ts None
 closed_open m f ts a x p e = then_found f (λ k. expect m) ts a x None p (record { from = 0; holds = λ k h. ap (wanted a) e })
-
--- by what the tokens begin with
-by_view : {A V : Type 0} (f : ℕ → List Token → V → Got A) (view : List Token → V) (v : V) (ts : List Token) (r : Got A) → view ts ≡ v → Finds (λ k l. f k l v) ts r → Finds (λ k l. f k l (view l)) ts r
-by_view f view v ts r e p = record { from = p.from; holds = λ k h. ap (λ z. f k ts z) e ∙ p.holds k h }
 
 -- ANSWERS THAT TAKE NO STEP
 at_once : {A : Type 0} (f : List Token → Got A) (ts : List Token) (r : Got A) → f ts ≡ r → Finds (λ k l. f l) ts r
@@ -159,9 +155,6 @@ grow_index d g a b q r x y p e =
 pub grow_index_fails : (d g : ℕ) (a : NodeShape) (q : Pos) (r : List Token) → Finds (whole d g) r None → Finds (grown d g a q bracket) r None
 grow_index_fails d g a q r p = then_fails (closed marks.RightBracket (whole d g)) (λ k. index_on (λ b l. got b l) a q) r (closed_fails marks.RightBracket (whole d g) r p)
 
-pub grow_index_open : (d g : ℕ) (a b : NodeShape) (q : Pos) (r x : List Token) → Finds (whole d g) r (Some (b, x)) → after marks.RightBracket x ≡ None → Finds (grown d g a q bracket) r None
-grow_index_open d g a b q r x p e = then_fails (closed marks.RightBracket (whole d g)) (λ k. index_on (λ b l. got b l) a q) r (closed_open marks.RightBracket (whole d g) r b x p e)
-
 pub grow_field : (d g : ℕ) (a : NodeShape) (q : Pos) (h : Access) (x : Text) (r y : List Token) → a_word r ≡ Some (x, y) → Finds (grown d g a q (access h)) r (Some (node (place_of a) q bare (suffix a (field h x (place r))), y))
 grow_field d g a q h x r y e = record { from = 0; holds = λ k _. ap (λ f. then_go f (field_on (λ b l. got b l) a q h (place r))) e }
 
@@ -265,11 +258,6 @@ front_paren d g ts r x y a e t p c =
 pub front_paren_fails : (d g : ℕ) (ts r : List Token) → start ts ≡ at_paren r → type_ahead ts ≡ None → Finds (whole d g) r None → Finds (fronts d g) ts None
 front_paren_fails d g ts r e t p =
     let q = closed_fails marks.RightParen (whole d g) r p in
-    by_paren d g ts r None None e t (record { from = q.from; holds = λ k h. ap (λ f. then_go f (paren_at (place ts))) (q.holds k h) })
-
-pub front_paren_open : (d g : ℕ) (ts r x : List Token) (a : NodeShape) → start ts ≡ at_paren r → type_ahead ts ≡ None → Finds (whole d g) r (Some (a, x)) → after marks.RightParen x ≡ None → Finds (fronts d g) ts None
-front_paren_open d g ts r x a e t p c =
-    let q = closed_open marks.RightParen (whole d g) r a x p c in
     by_paren d g ts r None None e t (record { from = q.from; holds = λ k h. ap (λ f. then_go f (paren_at (place ts))) (q.holds k h) })
 
 pub front_cast : (d g : ℕ) (ts r y x z : List Token) (t : TypeShape) (a : NodeShape) → start ts ≡ at_paren r → type_ahead ts ≡ Some y → Finds (typed d g) y (Some (t, x)) → Finds (reads 13 (suc d) g) x (Some (a, z)) → Finds (fronts d g) ts (Some (node (place ts) (place ts) bare (cast t a), z))

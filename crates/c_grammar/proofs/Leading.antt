@@ -9,9 +9,6 @@ onto_more : {A S : Type 0} (cons : A → S → S) (list : List A) (a : A) (z : G
 onto_more cons [] a z = refl
 onto_more cons (b ∷ list) a z = ap (λ q. then_go q (onto_got cons b)) (onto_more cons list a z)
 
-pub leads_start : {A S : Type 0} (cons : A → S → S) (R : ℕ → List Token → Got S) (ts : List Token) → Leads cons R R [] ts ts
-leads_start cons R ts = record { on = λ z p. p }
-
 pub leads_more : {A S : Type 0} (cons : A → S → S) (R R' R'' : ℕ → List Token → Got S) (list : List A) (a : A) (ts rest x : List Token) → Leads cons R R' list ts rest → ((z : Got S) → Finds R'' x z → Finds R' rest (then_go z (onto_got cons a))) → Leads cons R R'' (list ++ a ∷ []) ts x
 leads_more cons R R' R'' list a ts rest x l f = record { on = λ z p. subst (Finds R ts) (sym (onto_more cons list a z)) (l.on (then_go z (onto_got cons a)) (f z p)) }
 

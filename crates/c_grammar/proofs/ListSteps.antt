@@ -3,7 +3,7 @@ pub use Rattle.c_grammar.specs.Parts.{LedFrom}
 use Rattle.std.proofs.Common.{◌≡◌, ℕ, zero, suc, ◌+◌, ◌≤◌, ◌<◌, List, [], ◌∷◌, ◌++◌, length, Option, Some, None, Bool, true, false, refl, sym, ap, ◌∙◌, subst, arith}
 use Rattle.std.proofs.lemmas.List.{length-append}
 use Rattle.std.specs.Prelude.{max}
-use Rattle.atac_base.specs.declared.place.Pos.{Pos}
+use Rattle.c_base.specs.declared.place.Pos.{Pos}
 use Rattle.c_syntax.specs.declared.text.Text.{Text}
 use Rattle.c_syntax.specs.declared.token.Mark.TheVariants as marks
 use Rattle.c_syntax.specs.declared.token.Key.{Key}
@@ -234,12 +234,6 @@ enumers_more l' d g l a x ts rest r y p e q alike same = subst (λ l'. EnumersFr
 
 pub enumers_done : (d g : ℕ) (l : List Enumer) (ts rest : List Token) → EnumersFrom d g (reads_enumers d g) l ts rest → after marks.Comma rest ≡ None → Finds (enumerators d g) ts (Some (enumer_list l, rest))
 enumers_done d g l ts rest p e = leads_end enumer_cons no_enumers enumer_list enumer_builds (enumerators d g) (reads_enumers d g) l ts rest rest p (enumers_end d g rest e)
-
-pub enumers_nameless : (d g : ℕ) (l : List Enumer) (ts rest : List Token) → EnumersFrom d g (enumerators d g) l ts rest → a_word rest ≡ None → Finds (enumerators d g) ts None
-enumers_nameless d g l ts rest p e = leads_fail enumer_cons (enumerators d g) (enumerators d g) l ts rest p (enumer_nameless d g rest e)
-
-pub enumers_failed : (d g : ℕ) (l : List Enumer) (x : Text) (ts rest r : List Token) → EnumersFrom d g (enumerators d g) l ts rest → a_word rest ≡ Some (x, r) → Finds (value d g) r None → Finds (enumerators d g) ts None
-enumers_failed d g l x ts rest r p e q = leads_fail enumer_cons (enumerators d g) (enumerators d g) l ts rest p (enumer_fails d g rest r x e q)
 
 -- DECLARATIONS AND DECLARATORS
 

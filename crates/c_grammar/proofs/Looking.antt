@@ -286,9 +286,6 @@ wanted_is a b (Some ts) rest e = let p = got_eq a b ts rest e in (p.0, ap (λ (l
 pub expect_is : {A : Type 0} (x : Mark) (a b : A) (ts rest : List Token) → expect x a ts ≡ got b rest → (a ≡ b) × (head ts ≡ a_token (kind.Mark x) rest)
 expect_is x a b ts rest e = let p = wanted_is a b (after x ts) rest e in (p.0, after_is x ts rest p.1)
 
-pub expect_of : {A : Type 0} (x : Mark) (a : A) (ts rest : List Token) → head ts ≡ a_token (kind.Mark x) rest → expect x a ts ≡ got a rest
-expect_of x a ts rest e = ap (wanted a) (after_of x ts rest e)
-
 -- something and a mark behind it
 pub closed_by : {A : Type 0} (x : Mark) (f : Got A) (a : A) (rest : List Token) → then_go f (expect x) ≡ got a rest → (ts : List Token) × (f ≡ got a ts) × (head ts ≡ a_token (kind.Mark x) rest)
 closed_by x f a rest e =

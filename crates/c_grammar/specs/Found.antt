@@ -1,6 +1,6 @@
 -- What a reader found, with its levels as the code counts them.
 use Rattle.std.specs.Prelude.{◌≡◌, ℕ, List, None, Some, ◌++◌, nat_lt}
-use Rattle.atac_base.specs.declared.place.Pos.{Pos}
+use Rattle.c_base.specs.declared.place.Pos.{Pos}
 use Rattle.c_syntax.specs.declared.token.Token.{Token}
 use Rattle.c_syntax.specs.declared.tree.Node.{Node}
 use Rattle.c_syntax.specs.Shape.{bare, NodeShape, node, probe, ProbeShape, NodeShapes, SpecShape, word, DeclShapes, DeclaratorShape}

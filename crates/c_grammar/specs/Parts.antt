@@ -2,7 +2,7 @@
 use Rattle.std.specs.Prelude.{◌≡◌, ℕ, suc, List, [], ◌∷◌, ◌++◌, Option, Bool, nat_lt}
 use Rattle.c_syntax.specs.declared.tree.Declarator.{Declarator}
 use Rattle.c_syntax.specs.View.{declarator_list}
-use Rattle.atac_base.specs.declared.place.Pos.{Pos}
+use Rattle.c_base.specs.declared.place.Pos.{Pos}
 use Rattle.c_syntax.specs.declared.token.Mark.{Mark}
 use Rattle.c_syntax.specs.declared.token.Mark.TheVariants as marks
 use Rattle.c_syntax.specs.declared.token.Token.{Token}

@@ -1,3 +1,5 @@
+//! What may stand where a declarator stands.
+
 ghost use Rattle.std.specs.Prelude.{◌≡◌};
 ghost use Rattle.c_syntax.specs.Shaped.{is_in_names, may_be_open, name_fits, may_begin, is_there};
 ghost use Rattle.c_syntax.specs.View.{decl_form_shape};

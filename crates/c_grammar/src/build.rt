@@ -1,3 +1,5 @@
+//! Parts of types and declarations, made of what stands in them.
+
 ghost use Rattle.std.specs.Prelude.{◌≡◌, ◌≤◌, length, IfOk, IsErrOf};
 ghost use Rattle.c_syntax.specs.declared.tree.Enumer.{out-Enumer};
 ghost use Rattle.c_syntax.specs.Shape.{type_name, struct, enum, no_members, members, no_rows, rows, decl, no_declarators, declarator, more_declarators, no_init, one_init, arrays, function, params, one, listed};
@@ -6,7 +8,7 @@ ghost use Rattle.c_grammar.specs.Reader.{plain_name};
 
 use crate::look::Stop;
 use crate::nodes::copied;
-use atac_base::place::Pos;
+use c_base::place::Pos;
 use c_syntax::text::Text;
 use c_syntax::tree::{
     Decl, DeclForm, Declarator, Enumer, Init, Named, Node, Param, Params, Spec, SpecForm, Star,

@@ -1,3 +1,5 @@
+//! How tightly operators bind.
+
 ghost use Rattle.std.specs.Prelude.{◌≡◌, ℕ, ◌+◌, ◌<◌, ◌≤◌};
 ghost use Rattle.c_syntax.specs.View.{node_shape, node_list, probe_shape};
 ghost use Rattle.c_syntax.specs.Levels.{chain, nodes_chain, cases_chain};

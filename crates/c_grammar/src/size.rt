@@ -1,3 +1,5 @@
+//! How deep expressions are.
+
 ghost use Rattle.std.specs.Prelude.{◌≡◌, ◌+◌, ◌<◌, ◌≤◌, max, IfSome, MatchOption};
 
 /// How deep an expression is: its levels, and how many probes stand directly one inside another at its front.

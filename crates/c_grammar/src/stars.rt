@@ -1,3 +1,5 @@
+//! Stars, tags and declared names, read from tokens.
+
 ghost use Rattle.std.specs.Prelude.{◌≡◌, ℕ, ◌+◌, ◌<◌, ◌≤◌, List, [], ◌∷◌, ◌++◌, length, Some, None, IfOk, IsErrOf};
 ghost use Rattle.c_grammar.specs.Look.{Finds, Got, got};
 ghost use Rattle.c_grammar.specs.Reader.{reads_consts, reads_stars, tag, maybe_named};

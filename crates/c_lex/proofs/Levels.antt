@@ -6,7 +6,7 @@ use Rattle.std.proofs.lemmas.Grind.{flat_map-append}
 use Rattle.c_lex.specs.declared.expand.Frame.{Frame}
 use Rattle.c_lex.specs.declared.table.Piece.{Piece}
 use Rattle.c_lex.specs.Macros.{Spelled, spelled, Row, found}
-use Rattle.atac_base.specs.declared.place.Pos.{Pos}
+use Rattle.c_base.specs.declared.place.Pos.{Pos}
 use Rattle.c_lex.specs.Output.{Made, is_word}
 use Rattle.c_lex.specs.Expand.{is_closed, unless_open, macro_of, Step, replaced, gave, one_step, steps, closed_rows, expansion}
 use Rattle.c_lex.specs.Replacing.{closed_in, closed_of, left_in, left_of, replace_one, spent}

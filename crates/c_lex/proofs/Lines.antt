@@ -2,10 +2,10 @@
 use Rattle.std.proofs.Common.{◌≡◌, ℕ, zero, suc, ◌+◌, ◌<◌, ◌≤◌, List, [], ◌∷◌, ◌++◌, length, take, drop, map, Some, None, true, false, refl, ap, ◌∙◌, arith, length-drop}
 use Rattle.std.specs.Prelude.{◌==◌}
 use Rattle.std.proofs.lemmas.List.{map-append}
-use Rattle.c_cut.specs.declared.front.Class.{Class}
-use Rattle.c_cut.specs.declared.front.Front.{Front}
-use Rattle.c_cut.specs.declared.front.Front.TheVariants as front_is
-use Rattle.c_cut.specs.Front.{front}
+use Rattle.c_lex_pieces.specs.declared.front.Class.{Class}
+use Rattle.c_lex_pieces.specs.declared.front.Front.{Front}
+use Rattle.c_lex_pieces.specs.declared.front.Front.TheVariants as front_is
+use Rattle.c_lex_pieces.specs.Front.{front}
 use Rattle.c_lex.specs.declared.line.End.{End}
 use Rattle.c_lex.specs.declared.line.End.TheVariants as ends
 use Rattle.c_lex.specs.declared.table.Piece.{Piece}

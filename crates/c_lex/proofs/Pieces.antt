@@ -4,19 +4,19 @@ use Rattle.std.specs.Prelude.{flat_map, replicate, ◌==◌, ◌&&◌, ◌||◌,
 use Rattle.std.proofs.lemmas.Bool.{cond_both}
 use Rattle.std.proofs.lemmas.Bool.Decides.{nat_tests}
 use Rattle.c_syntax.specs.declared.token.Mark.{Mark}
-use Rattle.c_cut.specs.declared.bytes.ByteSet.TheVariants.{InNumber}
-use Rattle.c_cut.specs.declared.quotes.Constant.{Constant}
-use Rattle.c_cut.specs.declared.quotes.Constant.TheVariants.{Value, BadEscape, NotOne}
-use Rattle.c_cut.specs.declared.front.Class.{Class}
-use Rattle.c_cut.specs.declared.front.Class.TheVariants as class
-use Rattle.c_cut.specs.declared.front.Front.{Front}
-use Rattle.c_cut.specs.declared.front.Front.TheVariants as front_is
-use Rattle.c_cut.specs.Bytes.{is_letter, is_digit, is_blank, is_in, run}
-use Rattle.c_cut.specs.Numbers.{is_right}
-use Rattle.c_cut.specs.Quotes.{before_quote, characters, constant, all_values}
-use Rattle.c_cut.specs.Marks.{mark_front, is_front}
-use Rattle.c_cut.specs.Front.{front, comment_end, comment_piece, begins_with_digit, number_piece, constant_piece, char_piece, values_piece, str_piece, mark_piece}
-use Rattle.c_cut.proofs.Spelled.{point_or_digit}
+use Rattle.c_lex_pieces.specs.declared.bytes.ByteSet.TheVariants.{InNumber}
+use Rattle.c_lex_pieces.specs.declared.quotes.Constant.{Constant}
+use Rattle.c_lex_pieces.specs.declared.quotes.Constant.TheVariants.{Value, BadEscape, NotOne}
+use Rattle.c_lex_pieces.specs.declared.front.Class.{Class}
+use Rattle.c_lex_pieces.specs.declared.front.Class.TheVariants as class
+use Rattle.c_lex_pieces.specs.declared.front.Front.{Front}
+use Rattle.c_lex_pieces.specs.declared.front.Front.TheVariants as front_is
+use Rattle.c_lex_pieces.specs.Bytes.{is_letter, is_digit, is_blank, is_in, run}
+use Rattle.c_lex_pieces.specs.Numbers.{is_right}
+use Rattle.c_lex_pieces.specs.Quotes.{before_quote, characters, constant, all_values}
+use Rattle.c_lex_pieces.specs.Marks.{mark_front, is_front}
+use Rattle.c_lex_pieces.specs.Front.{front, comment_end, comment_piece, begins_with_digit, number_piece, constant_piece, char_piece, values_piece, str_piece, mark_piece}
+use Rattle.c_lex_pieces.proofs.Spelled.{point_or_digit}
 use Rattle.c_lex.specs.declared.lexer.TextKind.{TextKind}
 use Rattle.c_lex.specs.Output.{Made}
 use Rattle.c_lex.specs.Line.{LineCut, line_of}

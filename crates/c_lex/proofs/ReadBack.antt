@@ -4,7 +4,7 @@ use Rattle.std.specs.Prelude.{is_some, replicate, option_and_then, ◌&&◌, ◌
 use Rattle.std.specs.List.{list_any}
 use Rattle.std.proofs.lemmas.Bool.{or_left, ne_eqb, cond-true, cond-false}
 use Rattle.std.proofs.lemmas.Bool.Decides.{nat_tests}
-use Rattle.atac_base.specs.declared.place.Pos.{Pos}
+use Rattle.c_base.specs.declared.place.Pos.{Pos}
 use Rattle.c_syntax.specs.declared.token.Mark.{Mark}
 use Rattle.c_syntax.specs.declared.token.Mark.TheVariants as mark
 use Rattle.c_syntax.specs.declared.token.Key.{Key}
@@ -14,19 +14,19 @@ use Rattle.c_syntax.specs.declared.token.ProbeWord.TheVariants as probe
 use Rattle.c_syntax.specs.declared.token.Token.{Token}
 use Rattle.c_syntax.specs.declared.token.TokenKind.{TokenKind}
 use Rattle.c_syntax.specs.declared.token.TokenKind.TheVariants as token
-use Rattle.c_cut.specs.declared.bytes.ByteSet.TheVariants.{Blank, InWord, InNumber}
-use Rattle.c_cut.specs.declared.front.Class.{Class}
-use Rattle.c_cut.specs.declared.front.Class.TheVariants as class
-use Rattle.c_cut.specs.declared.front.Front.TheVariants.{Refused, Piece}
-use Rattle.c_cut.specs.Bytes.{is_letter, is_digit, is_blank, is_in, run}
-use Rattle.c_cut.specs.Numbers.{is_right}
-use Rattle.c_cut.specs.Front.{front, number_piece}
-use Rattle.c_cut.specs.Kinds.{kind, key_bytes, probe_bytes}
-use Rattle.c_cut.specs.Marks.{mark_bytes}
-use Rattle.c_cut.specs.Written.{IsToken, IsWord, IsNumber, class_of, token_bytes}
-use Rattle.c_cut.proofs.Quoted.{take_whole, char_read, str_read}
-use Rattle.c_cut.proofs.Runs.{IsPast, run_whole, run_none}
-use Rattle.c_cut.proofs.ReadBack.{letter_bounds, digit_bounds, above_blanks, no_letter, third, token_front, token_kind}
+use Rattle.c_lex_pieces.specs.declared.bytes.ByteSet.TheVariants.{Blank, InWord, InNumber}
+use Rattle.c_lex_pieces.specs.declared.front.Class.{Class}
+use Rattle.c_lex_pieces.specs.declared.front.Class.TheVariants as class
+use Rattle.c_lex_pieces.specs.declared.front.Front.TheVariants.{Refused, Piece}
+use Rattle.c_lex_pieces.specs.Bytes.{is_letter, is_digit, is_blank, is_in, run}
+use Rattle.c_lex_pieces.specs.Numbers.{is_right}
+use Rattle.c_lex_pieces.specs.Front.{front, number_piece}
+use Rattle.c_lex_pieces.specs.Kinds.{kind, key_bytes, probe_bytes}
+use Rattle.c_lex_pieces.specs.Marks.{mark_bytes}
+use Rattle.c_lex_pieces.specs.Written.{IsToken, IsWord, IsNumber, class_of, token_bytes}
+use Rattle.c_lex_pieces.proofs.Quoted.{take_whole, char_read, str_read}
+use Rattle.c_lex_pieces.proofs.Runs.{IsPast, run_whole, run_none}
+use Rattle.c_lex_pieces.proofs.ReadBack.{letter_bounds, digit_bounds, above_blanks, no_letter, third, token_front, token_kind}
 use Rattle.c_lex.specs.declared.lexer.TextKind.{TextKind}
 use Rattle.c_lex.specs.Macros.{Spelled, bytes_of, Row}
 use Rattle.c_lex.specs.Places.{moved}

@@ -1,8 +1,8 @@
 -- The steps of scanning.
 use Rattle.std.proofs.Common.{◌≡◌, ℕ, zero, suc, ◌<◌, ◌≤◌, List, length, drop, refl, sym, ap, ◌∙◌, arith, length-drop}
-use Rattle.atac_base.specs.declared.place.Pos.{Pos}
-use Rattle.c_cut.specs.declared.front.Front.{Front}
-use Rattle.c_cut.specs.Front.{front}
+use Rattle.c_base.specs.declared.place.Pos.{Pos}
+use Rattle.c_lex_pieces.specs.declared.front.Front.{Front}
+use Rattle.c_lex_pieces.specs.Front.{front}
 use Rattle.c_lex.specs.declared.lexer.TextKind.{TextKind}
 use Rattle.c_lex.specs.declared.scan.LexRefusal.{LexRefusal}
 use Rattle.c_lex.specs.declared.scan.LexRefusal.TheVariants.{At, NoMemory}

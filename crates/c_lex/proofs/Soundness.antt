@@ -4,7 +4,7 @@ use Rattle.std.proofs.lemmas.Bool.{cond_both}
 use Rattle.std.proofs.lemmas.Bool.Decides.{nat_tests}
 use Rattle.std.specs.Prelude.{flat_map, slice_get, slice_set, option_map, bytes_eq, replicate, is_some, codes, ◌&&◌, ◌||◌, nat_le, ◌==◌}
 use Rattle.std.specs.List.{list_any}
-use Rattle.atac_base.specs.declared.place.Pos.{Pos}
+use Rattle.c_base.specs.declared.place.Pos.{Pos}
 use Rattle.c_syntax.specs.declared.token.Mark.{Mark}
 use Rattle.c_syntax.specs.declared.token.Mark.TheVariants as mark
 use Rattle.c_syntax.specs.declared.token.Key.{Key}
@@ -14,17 +14,17 @@ use Rattle.c_syntax.specs.declared.token.ProbeWord.TheVariants as probe
 use Rattle.c_syntax.specs.declared.token.Token.{Token}
 use Rattle.c_syntax.specs.declared.token.TokenKind.{TokenKind}
 use Rattle.c_syntax.specs.declared.token.TokenKind.TheVariants as token
-use Rattle.c_cut.specs.declared.quotes.Constant.{Constant}
-use Rattle.c_cut.specs.declared.quotes.Constant.TheVariants.{Value, BadEscape, NotOne}
-use Rattle.c_cut.specs.declared.front.Class.{Class}
-use Rattle.c_cut.specs.declared.front.Class.TheVariants as class
-use Rattle.c_cut.specs.declared.front.Front.{Front}
-use Rattle.c_cut.specs.declared.front.Front.TheVariants as front_is
-use Rattle.c_cut.specs.Front.{front}
-use Rattle.c_cut.specs.Quotes.{inside, characters, constant, all_values}
-use Rattle.c_cut.specs.Kinds.{kind, char_kind, word_kind, key_of, probe_of, key_bytes, probe_bytes, left_out}
-use Rattle.c_cut.specs.Written.{IsToken, class_of, token_bytes, AreBytes}
-use Rattle.c_cut.proofs.Spelled.{piece_spells}
+use Rattle.c_lex_pieces.specs.declared.quotes.Constant.{Constant}
+use Rattle.c_lex_pieces.specs.declared.quotes.Constant.TheVariants.{Value, BadEscape, NotOne}
+use Rattle.c_lex_pieces.specs.declared.front.Class.{Class}
+use Rattle.c_lex_pieces.specs.declared.front.Class.TheVariants as class
+use Rattle.c_lex_pieces.specs.declared.front.Front.{Front}
+use Rattle.c_lex_pieces.specs.declared.front.Front.TheVariants as front_is
+use Rattle.c_lex_pieces.specs.Front.{front}
+use Rattle.c_lex_pieces.specs.Quotes.{inside, characters, constant, all_values}
+use Rattle.c_lex_pieces.specs.Kinds.{kind, char_kind, word_kind, key_of, probe_of, key_bytes, probe_bytes, left_out}
+use Rattle.c_lex_pieces.specs.Written.{IsToken, class_of, token_bytes, AreBytes}
+use Rattle.c_lex_pieces.proofs.Spelled.{piece_spells}
 use Rattle.c_lex.specs.declared.line.End.{End}
 use Rattle.c_lex.specs.declared.line.End.TheVariants as ends
 use Rattle.c_lex.specs.declared.directive.Header.{Header}

@@ -3,9 +3,9 @@ use Rattle.std.proofs.Common.{◌≡◌, ℕ, suc, ◌+◌, ◌-◌, List, [], �
 use Rattle.std.specs.Prelude.{flat_map, option_and_then, ◌&&◌, ◌||◌, nat_le}
 use Rattle.std.specs.List.{list_any}
 use Rattle.std.proofs.lemmas.Bool.Decides.{nat_tests}
-use Rattle.atac_base.specs.declared.place.Pos.{Pos}
+use Rattle.c_base.specs.declared.place.Pos.{Pos}
 use Rattle.c_syntax.specs.declared.token.Token.{Token}
-use Rattle.c_cut.specs.Kinds.{kind}
+use Rattle.c_lex_pieces.specs.Kinds.{kind}
 use Rattle.c_lex.specs.declared.output.Room.{Room}
 use Rattle.c_lex.specs.Macros.{Spelled, bytes_of}
 use Rattle.c_lex.specs.Output.{Made, is_left_out, tokens_at}

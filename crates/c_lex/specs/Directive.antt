@@ -1,7 +1,7 @@
 -- Directives (C89, 3.8), by the pieces of their line behind the `#`.
 use Rattle.std.specs.Prelude.{ℕ, ◌&&◌, ◌||◌, List, [], ◌∷◌, Option, Some, None, Bool, true, false, not, cond, nat_eq, bytes_eq, codes, filter, map}
-use Rattle.c_cut.specs.declared.front.Class.{Class}
-use Rattle.c_cut.specs.declared.front.Class.TheVariants as class
+use Rattle.c_lex_pieces.specs.declared.front.Class.{Class}
+use Rattle.c_lex_pieces.specs.declared.front.Class.TheVariants as class
 use Rattle.c_lex.specs.declared.line.End.{End}
 use Rattle.c_lex.specs.declared.line.End.TheVariants as ends
 use Rattle.c_lex.specs.declared.directive.Header.{Header}

@@ -1,8 +1,8 @@
 -- Macro replacement (C89, 3.8.3): a name gives its tokens, in which it is hidden, replaced in turn.
 use Rattle.std.specs.Prelude.{ℕ, zero, suc, ◌+◌, ◌-◌, ◌&&◌, ◌||◌, nat_le, length, List, [], ◌∷◌, ◌++◌, flat_map, Option, Some, None, Bool, true, false, not, cond, slice_get, slice_set}
-use Rattle.atac_base.specs.declared.place.Pos.{Pos}
+use Rattle.c_base.specs.declared.place.Pos.{Pos}
 use Rattle.std.specs.List.{list_any}
-use Rattle.c_cut.specs.Kinds.{kind}
+use Rattle.c_lex_pieces.specs.Kinds.{kind}
 use Rattle.c_lex.specs.declared.output.Room.{Room}
 use Rattle.c_lex.specs.Macros.{Spelled, bytes_of, Row, found}
 use Rattle.c_lex.specs.Output.{Made, is_word, is_left_out, tokens_at}

@@ -1,10 +1,10 @@
 -- The rest of a directive's line: its pieces up to the next newline outside a comment (C89, 2.1.1.2).
 use Rattle.std.specs.Prelude.{ℕ, zero, suc, ◌+◌, ◌<◌, ◌≡◌, List, [], ◌∷◌, ◌++◌, length, take, drop, Option, Some, None, ◌==◌, cond}
-use Rattle.c_cut.specs.declared.front.Class.{Class}
-use Rattle.c_cut.specs.declared.front.Class.TheVariants as class
-use Rattle.c_cut.specs.declared.front.Front.{Front}
-use Rattle.c_cut.specs.declared.front.Front.TheVariants as front_is
-use Rattle.c_cut.specs.Front.{front}
+use Rattle.c_lex_pieces.specs.declared.front.Class.{Class}
+use Rattle.c_lex_pieces.specs.declared.front.Class.TheVariants as class
+use Rattle.c_lex_pieces.specs.declared.front.Front.{Front}
+use Rattle.c_lex_pieces.specs.declared.front.Front.TheVariants as front_is
+use Rattle.c_lex_pieces.specs.Front.{front}
 use Rattle.c_lex.specs.declared.line.End.{End}
 use Rattle.c_lex.specs.declared.line.End.TheVariants as ends
 use Rattle.c_lex.specs.Macros.{Spelled}

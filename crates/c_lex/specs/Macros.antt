@@ -2,7 +2,7 @@
 use Rattle.std.specs.Prelude.{ℕ, ◌+◌, length, List, [], ◌∷◌, Option, Some, None, bytes_eq, cond, map, option_map, position, slice_get, Vec}
 use Rattle.std.specs.Global.{Global}
 use Rattle.std.specs.Borrow.{Bor}
-use Rattle.c_cut.specs.declared.front.Class.{Class}
+use Rattle.c_lex_pieces.specs.declared.front.Class.{Class}
 use Rattle.c_lex.specs.declared.table.Piece.{Piece}
 
 -- a token as it is spelled: its class and its bytes

@@ -1,11 +1,11 @@
 -- Tokens as they are given, and what limits them.
 use Rattle.std.specs.Prelude.{◌&&◌, List, [], ◌∷◌, Option, Some, None, Bool, true, false}
-use Rattle.atac_base.specs.declared.place.Pos.{Pos}
+use Rattle.c_base.specs.declared.place.Pos.{Pos}
 use Rattle.c_syntax.specs.declared.token.Token.{Token}
 use Rattle.c_syntax.specs.declared.token.TokenKind.{TokenKind}
-use Rattle.c_cut.specs.declared.front.Class.{Class}
-use Rattle.c_cut.specs.declared.front.Class.TheVariants as class
-use Rattle.c_cut.specs.Kinds.{left_out}
+use Rattle.c_lex_pieces.specs.declared.front.Class.{Class}
+use Rattle.c_lex_pieces.specs.declared.front.Class.TheVariants as class
+use Rattle.c_lex_pieces.specs.Kinds.{left_out}
 use Rattle.c_lex.specs.declared.output.Room.{Room}
 use Rattle.c_lex.specs.declared.output.Output.{Output}
 use Rattle.c_lex.specs.Macros.{Spelled}

@@ -1,6 +1,6 @@
 -- The pieces of a text: blanks, comments, directives and tokens, and where one is refused the rest as it is.
 use Rattle.std.specs.Prelude.{ℕ, zero, suc, List, [], ◌∷◌, length, take, drop, ◌==◌, cond}
-use Rattle.c_cut.specs.Front.{front}
+use Rattle.c_lex_pieces.specs.Front.{front}
 use Rattle.c_lex.specs.declared.lexer.TextKind.{TextKind}
 use Rattle.c_lex.specs.Scan.{State, Taken, goes, refuses, taken}
 use Rattle.c_lex.specs.Given.{begin}

@@ -1,6 +1,6 @@
 -- Places in a text: lines and columns count from 1, and a column counts bytes.
 use Rattle.std.specs.Prelude.{ℕ, ◌+◌, List, [], ◌∷◌, Bool, true, false, nat_eq}
-use Rattle.atac_base.specs.declared.place.Pos.{Pos}
+use Rattle.c_base.specs.declared.place.Pos.{Pos}
 
 abbrev pub next_place : Bool → Pos → Pos
 next_place true p = record { line = p.line + 1; col = 1 }

@@ -3,7 +3,7 @@ use Rattle.std.specs.Prelude.{◌≡◌, ◌≤◌, ◌&&◌, List, [], ◌∷�
 use Rattle.std.specs.List.{list_any}
 use Rattle.c_syntax.specs.declared.token.Token.{Token}
 use Rattle.c_syntax.specs.declared.token.TokenKind.{TokenKind}
-use Rattle.c_cut.specs.Written.{IsToken, class_of, token_bytes}
+use Rattle.c_lex_pieces.specs.Written.{IsToken, class_of, token_bytes}
 use Rattle.c_lex.specs.declared.lexer.TextKind.{TextKind}
 use Rattle.c_lex.specs.Macros.{Spelled, bytes_of}
 use Rattle.c_lex.specs.Output.{is_left_out}

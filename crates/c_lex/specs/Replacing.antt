@@ -1,7 +1,7 @@
 -- How replacing goes, step by step: what is counted, and the stack of lists that are being replaced.
 use Rattle.std.specs.Prelude.{◌-◌, ◌&&◌, ◌||◌, List, [], ◌∷◌, ◌++◌, length, map, Option, Some, None, Bool, false, nat_lt, nat_le, cond, slice_set, option_and_then, reverse}
-use Rattle.atac_base.specs.declared.place.Pos.{Pos}
-use Rattle.c_cut.specs.Kinds.{kind}
+use Rattle.c_base.specs.declared.place.Pos.{Pos}
+use Rattle.c_lex_pieces.specs.Kinds.{kind}
 use Rattle.c_lex.specs.declared.expand.Frame.{Frame}
 use Rattle.c_lex.specs.Macros.{Spelled, spelled, Row}
 use Rattle.c_lex.specs.Output.{Made, is_left_out, tokens_at}

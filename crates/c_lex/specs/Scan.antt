@@ -3,14 +3,14 @@
 use Rattle.std.specs.Prelude.{ℕ, zero, suc, ◌+◌, ◌<◌, ◌≡◌, ◌||◌, List, [], ◌∷◌, length, take, drop, replicate, bytes_eq, codes, Option, Some, None, Bool, true, false, ◌==◌, nat_eq, cond}
 use Rattle.std.specs.List.{list_any}
 use Rattle.std.specs.Cmp.Lexicographic.{pointwise}
-use Rattle.atac_base.specs.declared.place.Pos.{Pos}
+use Rattle.c_base.specs.declared.place.Pos.{Pos}
 use Rattle.c_syntax.specs.declared.token.Mark.TheVariants as mark
 use Rattle.c_syntax.specs.declared.token.Token.{Token}
-use Rattle.c_cut.specs.declared.front.Class.{Class}
-use Rattle.c_cut.specs.declared.front.Class.TheVariants as class
-use Rattle.c_cut.specs.declared.front.Front.{Front}
-use Rattle.c_cut.specs.declared.front.Front.TheVariants as front_is
-use Rattle.c_cut.specs.Front.{front}
+use Rattle.c_lex_pieces.specs.declared.front.Class.{Class}
+use Rattle.c_lex_pieces.specs.declared.front.Class.TheVariants as class
+use Rattle.c_lex_pieces.specs.declared.front.Front.{Front}
+use Rattle.c_lex_pieces.specs.declared.front.Front.TheVariants as front_is
+use Rattle.c_lex_pieces.specs.Front.{front}
 use Rattle.c_lex.specs.declared.directive.Header.{Header}
 use Rattle.c_lex.specs.declared.directive.Header.TheVariants as header
 use Rattle.c_lex.specs.Macros.{Spelled, Row, found, set_row}

@@ -4,7 +4,7 @@ use Rattle.c_syntax.specs.declared.token.Mark.TheVariants as mark
 use Rattle.c_syntax.specs.declared.token.Token.{Token}
 use Rattle.c_syntax.specs.declared.token.TokenKind.{TokenKind}
 use Rattle.c_syntax.specs.declared.token.TokenKind.TheVariants as kinds
-use Rattle.c_cut.specs.Written.{token_bytes}
+use Rattle.c_lex_pieces.specs.Written.{token_bytes}
 
 -- what stands behind a token, by how many tokens follow: a newline after `;`, `{`, `}` and at the end, else a space
 abbrev pub end_byte : TokenKind → ℕ → ℕ

@@ -1,3 +1,5 @@
+//! Directives, read from the pieces of their lines (C89, 3.8).
+
 ghost use Rattle.std.specs.Prelude.{◌≡◌, [], ◌∷◌, ◌++◌, length, map, Some, None, OnOk, IfOk};
 ghost use Rattle.c_lex.specs.Macros.{spelled};
 ghost use Rattle.c_lex.specs.Output.{is_word};
@@ -6,8 +8,8 @@ ghost use Rattle.c_lex.specs.Directive.{at_end, behind_gaps, by_word, define, de
 use crate::line::{End, push};
 use crate::output::names;
 use crate::table::Piece;
-use atac_base::place::NoMemory;
-use c_cut::front::Class;
+use c_base::place::NoMemory;
+use c_lex_pieces::front::Class;
 use std::alloc::Global;
 
 /// The headers that can be included.

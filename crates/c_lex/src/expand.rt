@@ -1,3 +1,5 @@
+//! Macros replaced (C89, 3.8.3).
+
 ghost use Rattle.std.specs.Prelude.{◌≡◌, ◌+◌, ◌*◌, ◌<◌, [], ◌∷◌, ◌++◌, length, map, slice_set, Some, None, OnOk, IfOk, MatchOption, MatchBool, true};
 ghost use Rattle.c_lex.specs.Macros.{rows_of, spelled};
 ghost use Rattle.c_lex.specs.Output.{made_of};
@@ -6,7 +8,7 @@ ghost use Rattle.c_lex.specs.Replacing.{closed_of, left_of, spent};
 
 use crate::output::{Output, names};
 use crate::table::{Piece, Table, find};
-use atac_base::place::{NoMemory, Pos};
+use c_base::place::{NoMemory, Pos};
 use std::alloc::Global;
 
 /// A macro that is being replaced: its row, and what is left of its tokens.

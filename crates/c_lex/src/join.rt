@@ -1,7 +1,9 @@
+//! Adjacent strings joined (C89, 3.1.4).
+
 ghost use Rattle.std.specs.Prelude.{◌≡◌, ◌<◌, ◌≤◌, [], ◌∷◌, ◌++◌, length, OnOk, IfOk};
 ghost use Rattle.c_lex.specs.Joined.{join_behind, join_two, joined, string_of};
 
-use atac_base::place::NoMemory;
+use c_base::place::NoMemory;
 use c_syntax::text::Text;
 use c_syntax::token::{Token, TokenKind};
 use std::alloc::Global;

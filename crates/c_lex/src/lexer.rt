@@ -1,3 +1,5 @@
+//! The tokens of a text, or its first refusal.
+
 ghost use Rattle.std.specs.Prelude.{◌≡◌, ◌≤◌, length, IfOk, IfErr};
 ghost use Rattle.c_lex.specs.Scan.{Scans, scanned};
 ghost use Rattle.c_lex.specs.ReadBack.{AreSound, kinds_of};
@@ -6,8 +8,8 @@ ghost use Rattle.c_lex.specs.Given.{IsRefused, Refuses, begin, given, room_of};
 use crate::join::join;
 use crate::output::{Output, Room};
 use crate::scan::{LexRefusal, Scan};
-use atac_base::place::Pos;
-use c_cut::front::longest;
+use c_base::place::Pos;
+use c_lex_pieces::front::longest;
 use c_syntax::token::Token;
 use indexmap::IndexMap;
 use std::alloc::Global;

@@ -17,6 +17,3 @@ pub mod write;
 pub use lexer::{TextKind, lex};
 pub use scan::LexRefusal;
 pub use write::text_of;
-
-#[cfg(test)]
-mod tests;

@@ -1,10 +1,12 @@
+//! The pieces of a directive's line.
+
 ghost use Rattle.std.specs.Prelude.{◌≡◌, ◌≤◌, [], ◌∷◌, ◌++◌, length, map, OnOk, IfOk};
 ghost use Rattle.c_lex.specs.Macros.{bytes_of, spelled};
 ghost use Rattle.c_lex.specs.Line.{Lines, end_at, line_of, line_to};
 
 use crate::table::Piece;
-use atac_base::place::NoMemory;
-use c_cut::front::{Class, Front, longest};
+use c_base::place::NoMemory;
+use c_lex_pieces::front::{Class, Front, longest};
 use std::alloc::Global;
 
 /// What stands behind the pieces of a line: its end, or what is refused by this number.

@@ -1,3 +1,5 @@
+//! What directives do (C89, 3.8).
+
 ghost use Rattle.std.specs.Prelude.{◌≡◌, [], ◌∷◌, ◌++◌, map, Some, OnOk, IfOk, codes};
 ghost use Rattle.c_lex.specs.Macros.{rows_of, set_row, spelled};
 ghost use Rattle.c_lex.specs.Directive.{defines, does};
@@ -7,8 +9,8 @@ ghost use Rattle.c_lex.specs.Obeyed.{effect_of};
 use crate::directive::{Directive, Header};
 use crate::line::push;
 use crate::table::{Piece, Table, find, set};
-use atac_base::place::NoMemory;
-use c_cut::front::Class;
+use c_base::place::NoMemory;
+use c_lex_pieces::front::Class;
 use c_syntax::token::Mark;
 use std::alloc::Global;
 

@@ -1,13 +1,15 @@
+//! The tokens so far, within their limits.
+
 ghost use Rattle.std.specs.Prelude.{◌≡◌, ◌≤◌, ◌+◌, ◌-◌, ◌++◌, length, Some, None, OnOk, IfOk, MatchBool, true};
 ghost use Rattle.c_lex.specs.Macros.{spelled};
-ghost use Rattle.c_cut.specs.Kinds.{kind};
+ghost use Rattle.c_lex_pieces.specs.Kinds.{kind};
 ghost use Rattle.c_lex.specs.Output.{is_word, made_of, tokens_at};
 ghost use Rattle.c_lex.specs.Replacing.{put_token, replace_one};
 
 use crate::table::Piece;
-use atac_base::place::{NoMemory, Pos};
-use c_cut::front::Class;
-use c_cut::kinds::{is_left_out, kind_of};
+use c_base::place::{NoMemory, Pos};
+use c_lex_pieces::front::Class;
+use c_lex_pieces::kinds::{is_left_out, kind_of};
 use c_syntax::token::Token;
 use std::alloc::Global;
 

@@ -1,7 +1,9 @@
+//! Places behind bytes.
+
 ghost use Rattle.std.specs.Prelude.{◌≡◌, ◌+◌, ◌<◌, ◌≤◌, ◌^◌, length};
 ghost use Rattle.c_lex.specs.Places.{moved};
 
-use atac_base::place::Pos;
+use c_base::place::Pos;
 
 /// The place behind these bytes.
 pub fn behind(place: Pos, bytes: &[u8]) -> Pos

@@ -1,6 +1,8 @@
+//! The scan of a text, piece by piece.
+
 ghost use Rattle.std.specs.Prelude.{◌≡◌, ◌+◌, ◌<◌, ◌≤◌, ◌^◌, [], ◌∷◌, ◌++◌, length, drop, nat_eq, map, replicate, false, OnOk, IfOk, IfErr};
 ghost use Rattle.std.specs.List.{list_any};
-ghost use Rattle.c_cut.specs.Front.{front, HasLength};
+ghost use Rattle.c_lex_pieces.specs.Front.{front, HasLength};
 ghost use Rattle.c_lex.specs.Macros.{spelled, bytes_of};
 ghost use Rattle.c_lex.specs.Places.{moved};
 ghost use Rattle.c_lex.specs.Line.{line_of};
@@ -14,8 +16,8 @@ use crate::obey::{Outcome, obey};
 use crate::output::Output;
 use crate::places::behind;
 use crate::table::{Piece, Table};
-use atac_base::place::{NoMemory, Pos};
-use c_cut::front::{Class, Front};
+use c_base::place::{NoMemory, Pos};
+use c_lex_pieces::front::{Class, Front};
 use std::alloc::Global;
 
 /// Why a text has no tokens: its first refusal, by a number from 1 to 9, with the place; or memory was wanted.

@@ -1,8 +1,10 @@
+//! The names that directives named, and what they stand for.
+
 ghost use Rattle.std.specs.Prelude.{◌≡◌, Some, None, OnOk, MatchOption, option_map, map, length};
 ghost use Rattle.c_lex.specs.Macros.{found, rows_of, set_row, spelled};
 
-use atac_base::place::NoMemory;
-use c_cut::front::Class;
+use c_base::place::NoMemory;
+use c_lex_pieces::front::Class;
 use indexmap::IndexMap;
 
 /// A token as it is spelled.

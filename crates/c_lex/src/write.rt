@@ -1,10 +1,12 @@
+//! Tokens written as a text.
+
 ghost use Rattle.std.specs.Prelude.{◌≡◌, ℕ, ◌+◌, ◌/◌, ◌%◌, ◌<◌, [], ◌∷◌, ◌++◌, length, flat_map, OnOk, IfOk};
-ghost use Rattle.c_cut.specs.Kinds.{key_bytes, probe_bytes};
-ghost use Rattle.c_cut.specs.Marks.{mark_bytes};
-ghost use Rattle.c_cut.specs.Written.{is_plain, token_bytes, value_bytes, values_bytes};
+ghost use Rattle.c_lex_pieces.specs.Kinds.{key_bytes, probe_bytes};
+ghost use Rattle.c_lex_pieces.specs.Marks.{mark_bytes};
+ghost use Rattle.c_lex_pieces.specs.Written.{is_plain, token_bytes, value_bytes, values_bytes};
 ghost use Rattle.c_lex.specs.Written.{end_byte, written};
 
-use atac_base::place::NoMemory;
+use c_base::place::NoMemory;
 use c_syntax::token::{Key, Mark, ProbeWord, Token, TokenKind};
 use std::alloc::Global;
 

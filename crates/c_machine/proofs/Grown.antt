@@ -1,17 +1,17 @@
 -- What a run has still to do takes nothing back: the log only grows.
 use Rattle.std.proofs.Common.{◌≡◌, ℕ, ◌+◌, List, [], ◌∷◌, refl, arith, Option, Some, None, Bool, true, false}
 use Rattle.std.specs.Prelude.{◌||◌, if◌then◌else◌}
-use Rattle.atac_base.specs.declared.probes.Event.{Event}
-use Rattle.atac_base.specs.declared.place.Pos.{Pos}
+use Rattle.c_events.specs.declared.events.Event.{Event}
+use Rattle.c_base.specs.declared.place.Pos.{Pos}
 use Rattle.c_syntax.specs.declared.tree.Named.{Named}
 use Rattle.c_syntax.specs.Shape.{TypeOf, MaybeNode, no_node, one_node, no_specs, decl, no_decls, more_decls, DeclaratorShapes, StmtShape, FormShape, compound, simply, when, either, while, do_while, for, switch, break, continue, return, braces, ItemShapes, no_items, more_items}
 use Rattle.c_syntax.specs.View.{stmt_shape, form_shape, item_list}
 use Rattle.c_store.specs.declared.value.Value.{Value}
 use Rattle.c_store.specs.Cells.{Cells, ended}
 use Rattle.c_tree.specs.declared.program.Program.{Program}
-use Rattle.c_tree.specs.Tables.{TablesShape, tables_shape}
-use Rattle.c_tree.specs.State.{row}
-use Rattle.c_items.specs.Stating.{splits, is_labelled}
+use Rattle.c_tables.specs.Tables.{TablesShape, tables_shape}
+use Rattle.c_tables.specs.Rows.{row}
+use Rattle.c_walk.specs.Stating.{splits, is_labelled}
 use Rattle.c_meaning.specs.declared.end.Flow.{Flow}
 use Rattle.c_meaning.specs.declared.end.Flow.TheVariants.{Next, Break, Continue, Return}
 use Rattle.c_meaning.specs.State.{Bound, State, top_within}
@@ -30,7 +30,7 @@ use Rattle.c_meaning.specs.Lasting.{Lasted, Keeps, IsFront, IsLater}
 use Rattle.c_meaning.proofs.Steadily.{at_rest, behind_step, then_kept, if_kept, present_kept, scalar_kept}
 use Rattle.c_meaning.proofs.SteadyNodes.{node_steady, arm_kept}
 use Rattle.c_meaning.proofs.SteadyRuns.{later_lasts, flow_kept, compound_kept, calls_later, main_later}
-use Rattle.c_routines.specs.Routines.{source_of}
+use Rattle.c_meaning.specs.Sources.{source_of}
 use Rattle.c_eval.specs.Advance.{Grown}
 use Rattle.c_eval.specs.Rest.{Val, answer}
 use Rattle.c_eval.specs.declared.frame.Frame.{Frame}
@@ -38,20 +38,20 @@ use Rattle.c_eval.specs.declared.work.Work.{Work}
 use Rattle.c_eval.proofs.Advanced.{grown_later}
 use Rattle.c_eval.proofs.Grown.{stack_on, work_later, answer_on}
 use Rattle.c_plan.specs.Parts.{items_left, names_ahead, first_in, other_in}
-use Rattle.c_flow.specs.declared.parts.Purpose.{Purpose}
-use Rattle.c_flow.specs.declared.parts.Purpose.TheVariants as purpose
-use Rattle.c_flow.specs.declared.parts.Use.{Use}
-use Rattle.c_flow.specs.declared.parts.Use.TheVariants as used
-use Rattle.c_flow.specs.declared.parts.Waiting.{Waiting}
-use Rattle.c_flow.specs.declared.parts.Waiting.TheVariants as waiting
-use Rattle.c_flow.specs.declared.parts.Active.{Active}
-use Rattle.c_flow.specs.declared.parts.Active.TheVariants as active
-use Rattle.c_flow.specs.declared.parts.Step.{Step}
-use Rattle.c_flow.specs.declared.parts.Step.TheVariants as step
-use Rattle.c_flow.specs.declared.machine.Machine.{Machine}
-use Rattle.c_flow.specs.declared.machine.Begun.{Begun}
-use Rattle.c_flow.specs.declared.machine.Begun.TheVariants as begun
-use Rattle.c_flow.specs.Todo.{Leaver, part_flow, other_flow, chosen_flow, loop_of, again_flow, next_flow, behind_body, tested_flow, switch_flow, block_flow, init_flow, needed_flow, stmt_flow, use_flow, uses, resumed, waits, all_wait, at_end, active_left, behind, left_in, left_after, begun_left, knot_of}
+use Rattle.c_machine.specs.declared.parts.Purpose.{Purpose}
+use Rattle.c_machine.specs.declared.parts.Purpose.TheVariants as purpose
+use Rattle.c_machine.specs.declared.parts.Use.{Use}
+use Rattle.c_machine.specs.declared.parts.Use.TheVariants as used
+use Rattle.c_machine.specs.declared.parts.Waiting.{Waiting}
+use Rattle.c_machine.specs.declared.parts.Waiting.TheVariants as waiting
+use Rattle.c_machine.specs.declared.parts.Active.{Active}
+use Rattle.c_machine.specs.declared.parts.Active.TheVariants as active
+use Rattle.c_machine.specs.declared.parts.Step.{Step}
+use Rattle.c_machine.specs.declared.parts.Step.TheVariants as step
+use Rattle.c_machine.specs.declared.machine.Machine.{Machine}
+use Rattle.c_machine.specs.declared.machine.Begun.{Begun}
+use Rattle.c_machine.specs.declared.machine.Begun.TheVariants as begun
+use Rattle.c_machine.specs.Todo.{Leaver, part_flow, other_flow, chosen_flow, loop_of, again_flow, next_flow, behind_body, tested_flow, switch_flow, block_flow, init_flow, needed_flow, stmt_flow, use_flow, uses, resumed, waits, all_wait, at_end, active_left, behind, left_in, left_after, begun_left, knot_of}
 
 -- the result is in a later state, or the run stops in one
 abbrev Later : {A : Type 0} → State → Got A → Type 0
@@ -64,19 +64,19 @@ Onward {A = A} go = (a : A) (s : State) → Later s (go a s)
 -- ---- in general
 
 still : {A : Type 0} (a : A) (s : State) → Later s (Gives a s)
-still a s = at_rest IsLater IsLater IsLater later_lasts _ _ (later_lasts.same s)
+still a s = at_rest IsLater IsLater IsLater IsLater later_lasts _ _ (later_lasts.same s)
 
 stopped : {A : Type 0} (s : State) → Later s (untyped {A = A} s)
-stopped s = at_rest IsLater IsLater IsLater later_lasts _ _ (later_lasts.same s)
+stopped s = at_rest IsLater IsLater IsLater IsLater later_lasts _ _ (later_lasts.same s)
 
 on : {A B : Type 0} (s : State) (r : Got A) (go : A → State → Got B) → Later s r → Onward go → Later s (then_do r go)
-on s r go kept onward = then_kept IsLater IsLater IsLater later_lasts s r go kept onward
+on s r go kept onward = then_kept IsLater IsLater IsLater IsLater later_lasts s r go kept onward
 
 one_of : {A : Type 0} (s : State) (b : Bool) (q r : Got A) → Later s q → Later s r → Later s (if b then q else r)
-one_of s b q r x y = if_kept IsLater IsLater IsLater later_lasts s b q r x y
+one_of s b q r x y = if_kept IsLater IsLater IsLater IsLater later_lasts s b q r x y
 
 there : {A : Type 0} (o : Option A) (s : State) → Later s (present o s)
-there o s = present_kept IsLater IsLater IsLater later_lasts o s
+there o s = present_kept IsLater IsLater IsLater IsLater later_lasts o s
 
 -- ---- scopes and calls end
 
@@ -120,11 +120,11 @@ before_next : (s : State) (r : Got Flow) → Later s (then_do (then_do r (λ f. 
 before_next s (Gives f u) kept = record { holds = kept.holds }
 before_next s (Stops why u) kept = record { holds = kept.holds }
 
-module _ (t : TablesShape) (k : Knot) (keeps : Keeps IsLater IsLater IsLater k) where
+module _ (t : TablesShape) (k : Knot) (keeps : Keeps IsLater IsLater IsLater IsLater k) where
   -- ---- parts of statements
 
   stmt_later : (b : Bool) (a : StmtShape) (i : First) (s : State) → Later s (flow t k b a i s)
-  stmt_later b a i s = flow_kept IsLater IsLater IsLater later_lasts t k keeps b a i s
+  stmt_later b a i s = flow_kept IsLater IsLater IsLater IsLater later_lasts t k keeps b a i s
 
   items_later : (e : Entry) (b : Bool) (items : ItemShapes) (i : First) (s : State) → Later s (items_flow t k e b items i s)
   items_later e b no_items i s = still _ s
@@ -138,12 +138,12 @@ module _ (t : TablesShape) (k : Knot) (keeps : Keeps IsLater IsLater IsLater k) 
   names_later : (names : DeclaratorShapes) (i : First) (s : State) → Later s (declared_names t k names i s)
   names_later names i s =
       let p : Pos = record { line = 1; col = 1 } in
-      before_next s _ (compound_kept IsLater IsLater IsLater later_lasts t k keeps (braces p (more_decls (decl p no_specs names) no_decls) no_items) i s)
+      before_next s _ (compound_kept IsLater IsLater IsLater IsLater later_lasts t k keeps (braces p (more_decls (decl p no_specs names) no_decls) no_items) i s)
 
   step_later : (e : MaybeNode) (i : First) (s : State) → Later s (step_flow t k e i s)
   step_later no_node i s = still _ s
   step_later (one_node e) i s =
-      on s _ _ (arm_kept IsLater IsLater IsLater later_lasts e (in_expression i) s (meaning t k e).value (λ j s. (node_steady IsLater IsLater IsLater later_lasts t k keeps e).value_steady j s)) (λ v s. still _ s)
+      on s _ _ (arm_kept IsLater IsLater IsLater IsLater later_lasts e (in_expression i) s (meaning t k e).value (λ j s. (node_steady IsLater IsLater IsLater IsLater later_lasts t k keeps e).value_steady j s)) (λ v s. still _ s)
 
   part_later : (o : Option StmtShape) (n : ℕ) (s : State) → Later s (part_flow t k o n s)
   part_later None n s = stopped s
@@ -194,7 +194,7 @@ module _ (t : TablesShape) (k : Knot) (keeps : Keeps IsLater IsLater IsLater k) 
   block_later names items n s = on s _ _ (names_later names (quiet n) s) (λ f s. items_later here false items (quiet (n + variables_among names)) s)
 
   init_later : (j v : ℕ) (x : Option Named) (a : Value) (s : State) → Later s (init_flow t j v x a s)
-  init_later j v x a s = on s _ _ (there (variable_kind t v) s) (λ y s. scalar_kept IsLater IsLater IsLater later_lasts x (quiet 0) j (converted y a) s)
+  init_later j v x a s = on s _ _ (there (variable_kind t v) s) (λ y s. scalar_kept IsLater IsLater IsLater IsLater later_lasts x (quiet 0) j (converted y a) s)
 
   -- ---- what an expression's value is for
 
@@ -222,12 +222,12 @@ module _ (t : TablesShape) (k : Knot) (keeps : Keeps IsLater IsLater IsLater k) 
   uses_later u go onward v s = on s _ go (use_later u v s) onward
 
   resumed_later : (frames : List Frame) (u : Use) (go : Leaver) → Onward go → Onward (resumed t k frames u go)
-  resumed_later frames u go onward v s = on s _ _ (stack_on IsLater IsLater IsLater later_lasts t k keeps frames answer (answer_on IsLater IsLater IsLater later_lasts) (Val v) s) (uses_later u go onward)
+  resumed_later frames u go onward v s = on s _ _ (stack_on IsLater IsLater IsLater IsLater later_lasts t k keeps frames answer (answer_on IsLater IsLater IsLater IsLater later_lasts) (Val v) s) (uses_later u go onward)
 
   waits_later : (w : Waiting) (go : Leaver) → Onward go → Onward (waits t k w go)
   waits_later (waiting.Rest q) go onward f s = on s _ go (after_later _ (λ s. items_later here false (items_left q) (quiet q.before) s) f s) onward
   waits_later (waiting.Loop p) go onward f s = on s _ go (behind_later (loop_of t (form_shape p.stmt.now.form) p.before) f s) onward
-  waits_later waiting.Scope go onward f s = behind_step IsLater IsLater IsLater later_lasts s (scope_closed s) _ (closed_later s) (onward f (scope_closed s))
+  waits_later waiting.Scope go onward f s = behind_step IsLater IsLater IsLater IsLater later_lasts s (scope_closed s) _ (closed_later s) (onward f (scope_closed s))
   waits_later waiting.Switch go onward f s = on s _ go (out_later f s) onward
   waits_later (waiting.Names b) go onward f s = on s _ go (block_later (names_ahead b) (item_list b.items.now.items) b.before s) onward
   waits_later (waiting.Caller g frames u) go onward f s = on s _ _ (returned_later (result_in (row t.functions g)) f s) (resumed_later frames.items u go onward)
@@ -262,12 +262,12 @@ machine_grown P m s l f = grown_later l s (left_in (tables_shape P.tables) (knot
 pub machine_after : (P : Program) (a : Step) (m : Machine) (s : State) → Lasted IsLater IsLater s (left_after (tables_shape P.tables) (knot_of P) a m s)
 machine_after P step.More m s = machine_later P m s
 machine_after P (step.Done v) m s = still v s
-machine_after P (step.Stopped why) m s = at_rest IsLater IsLater IsLater later_lasts _ _ (later_lasts.same s)
+machine_after P (step.Stopped why) m s = at_rest IsLater IsLater IsLater IsLater later_lasts _ _ (later_lasts.same s)
 
 -- and as the run begins
 pub begun_later : (P : Program) (b : Begun) (s : State) → Lasted IsLater IsLater s (begun_left (tables_shape P.tables) (knot_of P) b s)
 begun_later P (begun.Running m) s = machine_later P m s
-begun_later P (begun.Stopped why) s = at_rest IsLater IsLater IsLater later_lasts _ _ (later_lasts.same s)
+begun_later P (begun.Stopped why) s = at_rest IsLater IsLater IsLater IsLater later_lasts _ _ (later_lasts.same s)
 
 -- nor does a whole run
 pub made_later : (P : Source) (s : State) → Lasted IsLater IsLater s (main_called P silent (calls P silent) s)

@@ -1,3 +1,14 @@
+pub mod Stacks
+pub mod Moves
+pub mod Loops
+pub mod Lists
+pub mod Logged
+pub mod Declared
+pub mod Begun
+pub mod Turns
+pub mod Entered
+pub mod Filled
+pub mod Spare
 pub mod Rows
 pub mod Grown
 pub mod Runs

@@ -1,7 +1,7 @@
 -- The first function that is main.
 use Rattle.std.proofs.Common.{◌≡◌, ℕ, zero, suc, ◌+◌, true, false, List, [], ◌∷◌, drop, slice_get, Some, refl, add-one}
-use Rattle.c_tree.specs.Tables.{FunctionShape}
-use Rattle.c_tree.specs.State.{number_from}
+use Rattle.c_tables.specs.Tables.{FunctionShape}
+use Rattle.c_tables.specs.Rows.{number_from}
 use Rattle.c_tree.specs.Units.{is_main}
 
 drop_at : {R : Type 0} (rows : List R) (i j : ℕ) (r : R) → slice_get rows j ≡ Some r → j ≡ i → drop i rows ≡ r ∷ drop (suc i) rows

@@ -1,8 +1,8 @@
 -- The parts of a run, one behind the other.
 use Rattle.std.proofs.Common.{◌≡◌, ℕ, ◌-◌, List, [], Option, Some, None, refl, sym, ap, subst, ◌∙◌}
-use Rattle.atac_base.specs.declared.probes.Event.{Event}
+use Rattle.c_events.specs.declared.events.Event.{Event}
 use Rattle.c_store.specs.declared.value.Value.{Value}
-use Rattle.c_tree.specs.Tables.{TablesShape, tables_shape}
+use Rattle.c_tables.specs.Tables.{TablesShape, tables_shape}
 use Rattle.c_tree.specs.declared.program.Program.{Program}
 use Rattle.c_meaning.specs.declared.end.Stop.{Stop}
 use Rattle.c_meaning.specs.declared.end.Flow.{Flow}
@@ -18,11 +18,11 @@ use Rattle.c_meaning.proofs.SteadyRuns.{later_lasts, calls_later}
 use Rattle.c_meaning.proofs.Steadily.{at_rest}
 use Rattle.c_world.specs.World.{answered}
 use Rattle.c_eval.specs.Advance.{Grown, log_of}
-use Rattle.c_routines.specs.Routines.{source_of}
-use Rattle.c_flow.specs.Todo.{knot_of}
+use Rattle.c_meaning.specs.Sources.{source_of}
+use Rattle.c_machine.specs.Todo.{knot_of}
 use Rattle.c_eval.proofs.Advanced.{grown_then}
-use Rattle.c_machine.specs.declared.run.Ended.{Ended}
-use Rattle.c_machine.specs.declared.run.Ended.TheVariants as ended
+use Rattle.c_machine.specs.declared.running.Ended.{Ended}
+use Rattle.c_machine.specs.declared.running.Ended.TheVariants as ended
 use Rattle.c_machine.specs.Run.{ended_as, end_as}
 
 -- ---- a front of a log
@@ -53,7 +53,7 @@ module _ (P : Source) (k : Knot) (s u : State) where
   main_goes f e n = ap (λ r. then_do r (λ f s. then_do (present (main_number P.tables) s) (λ f. k.call f []))) e ∙ ap (λ m. then_do (present m u) (λ f. k.call f [])) (sym n)
 
 main_part : (P : Source) (s : State) (n : Option ℕ) → Lasted IsLater IsLater s (then_do (present n s) (λ f. (calls P silent).call f []))
-main_part P s None = at_rest IsLater IsLater IsLater later_lasts _ _ (later_lasts.same s)
+main_part P s None = at_rest IsLater IsLater IsLater IsLater later_lasts _ _ (later_lasts.same s)
 main_part P s (Some f) = (calls_later P silent).call_keeps f [] s
 
 -- what was logged while all was made is a front of the whole run's log

@@ -1,1 +1,4 @@
+pub mod Todo
+pub mod Forms
+pub mod Kept
 pub mod Run

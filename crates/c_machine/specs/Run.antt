@@ -1,15 +1,15 @@
 -- A run that has ended, as the outcome that it is.
 use Rattle.std.specs.Prelude.{List, [], Option}
-use Rattle.atac_base.specs.declared.probes.Event.{Event}
+use Rattle.c_events.specs.declared.events.Event.{Event}
 use Rattle.c_store.specs.declared.value.Value.{Value}
-use Rattle.c_tree.specs.Tables.{TablesShape}
+use Rattle.c_tables.specs.Tables.{TablesShape}
 use Rattle.c_meaning.specs.declared.end.End.{End}
 use Rattle.c_meaning.specs.declared.end.RunEnd.{RunEnd}
 use Rattle.c_meaning.specs.State.{State}
 use Rattle.c_meaning.specs.Results.{Got, Gives, Stops}
 use Rattle.c_meaning.specs.Runs.{Outcome, returned_end, stopped_end}
-use Rattle.c_machine.specs.declared.run.Ended.{Ended}
-use Rattle.c_machine.specs.declared.run.Ended.TheVariants as ended
+use Rattle.c_machine.specs.declared.running.Ended.{Ended}
+use Rattle.c_machine.specs.declared.running.Ended.TheVariants as ended
 
 -- main has returned, or the run was stopped
 abbrev pub ended_as : Ended → State → Got (Option Value)

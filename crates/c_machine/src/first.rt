@@ -1,12 +1,14 @@
+//! The function with which a run begins.
+
 ghost use Rattle.std.specs.Prelude.{◌≡◌};
-ghost use Rattle.c_tree.specs.Tables.{tables_shape, function_shape};
+ghost use Rattle.c_tables.specs.Tables.{tables_shape, function_shape};
 ghost use Rattle.c_tree.specs.Units.{is_main};
 ghost use Rattle.c_meaning.specs.Runs.{main_number};
 
-use atac_base::place::IntKind;
-use c_kinds::kinds::same;
+use c_base::place::IntKind;
 use c_syntax::tree::CType;
-use c_tree::tables::{FunctionRow, Tables};
+use c_tables::tables::{FunctionRow, Tables};
+use c_type_rules::kinds::same;
 
 /// The number of the function with which a run begins, `int main(void)` with a body (C89, 2.1.2.2.1).
 pub fn main_number(tables: &Tables) -> Option<u32>

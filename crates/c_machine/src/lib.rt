@@ -1,5 +1,12 @@
-//! A whole run of a program.
+//! A whole run of a program: statements and calls, step by step on a stack of what waits for them to leave.
 #![tactic(auto)]
 
-pub mod first;
-pub mod run;
+mod entry;
+mod first;
+mod initial;
+mod machine;
+mod marks;
+mod parts;
+mod running;
+
+pub use running::{Ended, run};

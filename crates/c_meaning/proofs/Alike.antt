@@ -1,9 +1,9 @@
 -- Two ways to the same result, behind which fewer turns are left: what each step of the meaning makes of them.
 use Rattle.std.proofs.Common.{◌≡◌, ℕ, zero, suc, ◌<◌, ◌-◌, List, [], ◌∷◌, Option, Some, None, Result, Ok, Err, Bool, true, false, ◌∙◌, refl, subst, arith}
 use Rattle.std.specs.Prelude.{nat_le, if◌then◌else◌}
-use Rattle.atac_base.specs.declared.probes.Event.{Event}
+use Rattle.c_events.specs.declared.events.Event.{Event}
 use Rattle.c_syntax.specs.declared.text.Text.{Text}
-use Rattle.c_values.specs.Probes.{probe_number_of}
+use Rattle.c_constants.specs.Probes.{probe_number_of}
 use Rattle.c_store.specs.declared.value.Value.{Value}
 use Rattle.c_store.specs.declared.value.Pointer.{Pointer}
 use Rattle.c_store.specs.declared.value.Fault.{Fault}

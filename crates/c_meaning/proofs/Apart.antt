@@ -4,10 +4,11 @@ use Rattle.std.proofs.Common.{◌≡◌, ℕ, suc, ◌<◌, ◌≤◌, inl, inr,
 use Rattle.std.specs.Prelude.{All, nat_eq, if◌then◌else◌}
 use Rattle.std.proofs.lemmas.List.Elements.{All-nil, All-cons, All-append, All-head, All-tail}
 use Rattle.std.proofs.lemmas.Bool.{ne_eqb, true≢false}
-use Rattle.atac_base.specs.declared.probes.Event.{Event}
+use Rattle.c_events.specs.declared.events.Event.{Event}
 use Rattle.c_store.specs.declared.value.Value.{Value}
 use Rattle.c_meaning.specs.State.{Act, begins, makes, tells, repeats, Bound, Call, Deed, State, activation_in, activation, logged, in_call, tail_of}
-use Rattle.c_meaning.specs.Results.{Got, Gives}
+use Rattle.c_meaning.specs.Results.{Got, Gives, Stops}
+use Rattle.c_meaning.specs.declared.end.Stop.{Stop}
 use Rattle.c_meaning.specs.Firsts.{First}
 use Rattle.c_meaning.specs.Calls.{Source, activated, calls}
 use Rattle.c_meaning.specs.Deeds.{told_by, told, own}
@@ -75,7 +76,7 @@ inside_new s f d (inr new) = omega (arith, new)
 inside : (s t : State) → s.deeds ≡ t.deeds → s.last ≤ t.last → activations t.calls ≡ activations s.calls → IsInside s t
 inside s t e le c = record { done = none IsOwnOrNew s t e le; calls = c }
 
-pub apart_lasts : Lasts IsInside IsOver (HasDone IsOwnOrNew)
+pub apart_lasts : Lasts IsInside IsOver (HasDone IsOwnOrNew) (HasDone IsNew)
 apart_lasts = record {
   same = λ s. inside s s refl (omega arith) refl;
   further = λ s t u p q. record { done = joined IsOwnOrNew s t u (own_or_new s t p.calls p.done.last) p.done q.done; calls = q.calls ∙ p.calls };
@@ -100,12 +101,14 @@ apart_lasts = record {
   };
   stopped = λ s t p. p.done;
   further_stop = λ s t u p q. joined IsOwnOrNew s t u (own_or_new s t p.calls p.done.last) p.done q;
-  call_stop = λ s f t p. record { deeds = p.deeds; is = p.is; all = widened (IsOwnOrNew (activated f s)) (IsOwnOrNew s) (λ d o. inr (inside_new s f d o)) p.deeds p.all; last = omega (arith, p.last) };
+  call_stop = λ s f t p. record { deeds = p.deeds; is = p.is; all = widened (IsOwnOrNew (activated f s)) (IsNew s) (inside_new s f) p.deeds p.all; last = omega (arith, p.last) };
+  not_begun = λ s. none IsNew s s refl (omega arith);
+  inside_stop = λ s t p. record { deeds = p.deeds; is = p.is; all = widened (IsNew s) (IsOwnOrNew s) (λ d new. inr new) p.deeds p.all; last = p.last };
 }
 
 -- of calls and loops
-pub calls_apart : (P : Source) (i : First) → Keeps IsInside IsOver (HasDone IsOwnOrNew) (calls P i)
-calls_apart P i = calls_keep IsInside IsOver (HasDone IsOwnOrNew) apart_lasts P i
+pub calls_apart : (P : Source) (i : First) → Keeps IsInside IsOver (HasDone IsOwnOrNew) (HasDone IsNew) (calls P i)
+calls_apart P i = calls_keep IsInside IsOver (HasDone IsOwnOrNew) (HasDone IsNew) apart_lasts P i
 
 -- ---- the events of all, and what an activation did by itself
 
@@ -113,7 +116,7 @@ by_append : (a : Act) (xs ys zs : List Event) → zs ≡ xs ++ ys → told_by a 
 by_append (tells x) xs ys zs e = ap (λ l. x ∷ l) e
 by_append (repeats x) xs ys zs e = ap (λ l. x ∷ l) e
 by_append (begins f) xs ys zs e = e
-by_append (makes v) xs ys zs e = e
+by_append (makes v j) xs ys zs e = e
 
 pub told_append : (xs ys : List Deed) → told (xs ++ ys) ≡ told xs ++ told ys
 told_append [] ys = refl
@@ -145,9 +148,18 @@ over_adds_none : (s t : State) → IsOver s t → (a : ℕ) → a ≤ s.last →
 over_adds_none s t p a le =
     ap (own a) (sym p.done.is) ∙ own_append a s.deeds p.done.deeds ∙ ap (λ l. own a s.deeds ++ l) (others_none s a le p.done.deeds p.done.all) ∙ append-nil (own a s.deeds)
 
-given_holds : (s : State) (v : Option Value) (t : State) (r : Got (Option Value)) → r ≡ Gives v t → Lasted IsOver (HasDone IsOwnOrNew) s r → IsOver s t
-given_holds s v t r e p = (subst (λ r. Lasted IsOver (HasDone IsOwnOrNew) s r) e p).holds
+given_holds : (s : State) (v : Option Value) (t : State) (r : Got (Option Value)) → r ≡ Gives v t → Lasted IsOver (HasDone IsNew) s r → IsOver s t
+given_holds s v t r e p = (subst (λ r. Lasted IsOver (HasDone IsNew) s r) e p).holds
 
 -- a call adds nothing to what the activations before it did by themselves
 pub call_adds_none : (P : Source) (i : First) (f : ℕ) (vs : List Value) (s : State) (v : Option Value) (t : State) → (calls P i).call f vs s ≡ Gives v t → (a : ℕ) → a ≤ s.last → own a t.deeds ≡ own a s.deeds
 call_adds_none P i f vs s v t e a le = over_adds_none s t (given_holds s v t ((calls P i).call f vs s) e ((calls_apart P i).call_keeps f vs s)) a le
+
+stop_holds : (s : State) (why : Stop) (t : State) (r : Got (Option Value)) → r ≡ Stops why t → Lasted IsOver (HasDone IsNew) s r → HasDone IsNew s t
+stop_holds s why t r e p = (subst (λ r. Lasted IsOver (HasDone IsNew) s r) e p).holds
+
+-- nor does a call in which the run stops
+pub stopped_adds_none : (P : Source) (i : First) (f : ℕ) (vs : List Value) (s : State) (why : Stop) (t : State) → (calls P i).call f vs s ≡ Stops why t → (a : ℕ) → a ≤ s.last → own a t.deeds ≡ own a s.deeds
+stopped_adds_none P i f vs s why t e a le =
+    let p = stop_holds s why t ((calls P i).call f vs s) e ((calls_apart P i).call_keeps f vs s) in
+    ap (own a) (sym p.is) ∙ own_append a s.deeds p.deeds ∙ ap (λ l. own a s.deeds ++ l) (others_none s a le p.deeds p.all) ∙ append-nil (own a s.deeds)

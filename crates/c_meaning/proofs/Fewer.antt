@@ -1,19 +1,19 @@
 -- What asks for no call and no loop leaves no more turns than there were.
 use Rattle.std.proofs.Common.{ℕ, ◌<◌, List, [], ◌∷◌, Option, Some, None, Result, Ok, Err, Bool, true, false, refl, arith}
 use Rattle.std.specs.Prelude.{nat_le, nat_lt, ◌+◌, length, bytes_eq, replicate}
-use Rattle.atac_base.specs.declared.probes.Event.{Event}
+use Rattle.c_events.specs.declared.events.Event.{Event}
 use Rattle.c_syntax.specs.declared.text.Text.{Text}
 use Rattle.c_syntax.specs.declared.tree.Named.{Named}
 use Rattle.c_syntax.specs.Shape.{TypeOf, int, pointer, array, structure, nothing, NoteShape, bare, typed, known}
-use Rattle.c_values.specs.declared.numbers.Number.{Number}
+use Rattle.c_constants.specs.declared.numbers.Number.{Number}
 use Rattle.c_store.specs.declared.value.Value.{Value}
 use Rattle.c_store.specs.declared.value.Value.TheVariants.{Int, Null, At}
 use Rattle.c_store.specs.declared.value.Pointer.{Pointer}
 use Rattle.c_store.specs.declared.value.MakeErr.{MakeErr}
 use Rattle.c_store.specs.Cells.{Cells, read_of, write_of, selected, made}
-use Rattle.c_tree.specs.Tables.{TablesShape}
-use Rattle.c_tree.specs.Builtins.{builtin_name}
-use Rattle.c_tree.specs.declared.meaning.Builtin.TheVariants.{GetChar, PutChar, Exit}
+use Rattle.c_tables.specs.Tables.{TablesShape}
+use Rattle.c_tables.specs.Builtins.{builtin_name}
+use Rattle.c_tables.specs.declared.builtins.Builtin.TheVariants.{GetChar, PutChar, Exit}
 use Rattle.c_meaning.specs.State.{Act, tells, repeats, State, instance_of}
 use Rattle.c_meaning.specs.Results.{Gives, untyped}
 use Rattle.c_meaning.specs.Layout.{Part, cells, part_in}

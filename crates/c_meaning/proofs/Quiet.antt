@@ -2,20 +2,20 @@
 -- probes log the same.
 use Rattle.std.proofs.Common.{◌≡◌, ℕ, List, [], ◌∷◌, drop, Option, Some, None, Bool, true, false, ◌∙◌, refl, ap}
 use Rattle.std.specs.Prelude.{pos, is_some}
-use Rattle.atac_base.specs.declared.place.Pos.{Pos}
+use Rattle.c_base.specs.declared.place.Pos.{Pos}
 use Rattle.c_arith.specs.Arith.{truth}
 use Rattle.c_syntax.specs.declared.text.Text.{Text}
 use Rattle.c_syntax.specs.declared.tree.UnaryOp.{UnaryOp}
 use Rattle.c_syntax.specs.declared.tree.UnaryOp.TheVariants as front
 use Rattle.c_syntax.specs.Shape.{TypeOf, int, pointer, array, structure, nothing, NoteShape, bare, typed, known, Leaf, number, char, str, name, Step, unary, before, size_of, plain, and, or, assign, comma, dot, arrow, NodeShape, node, ExprShape, leaf, paren, call, prefix, size_of_type, cast, suffix, two, choose, probe, index, field, behind, simple, select, block, test, used, def, NodeShapes, no_nodes, more_nodes}
-use Rattle.c_values.specs.Numbers.{number_of}
+use Rattle.c_constants.specs.Numbers.{number_of}
 use Rattle.c_store.specs.declared.value.Value.{Value}
 use Rattle.c_store.specs.declared.value.Value.TheVariants.{Int}
 use Rattle.c_store.specs.declared.value.Pointer.{Pointer}
-use Rattle.c_tree.specs.Tables.{FunctionShape, TablesShape}
-use Rattle.c_tree.specs.State.{row}
-use Rattle.c_items.specs.declared.around.Taken.{Taken}
-use Rattle.c_items.specs.declared.around.Taken.TheVariants.{Read, Written, Changed, Addressed}
+use Rattle.c_tables.specs.Tables.{FunctionShape, TablesShape}
+use Rattle.c_tables.specs.Rows.{row}
+use Rattle.c_walk.specs.declared.around.Taken.{Taken}
+use Rattle.c_walk.specs.declared.around.Taken.TheVariants.{Read, Written, Changed, Addressed}
 use Rattle.c_meaning.specs.State.{State}
 use Rattle.c_meaning.specs.Results.{Got, Gives, then_do, settled, needed}
 use Rattle.c_meaning.specs.Operators.{is_true, operated, stepped_by_one, element_pointer, of_one, target, pointed}

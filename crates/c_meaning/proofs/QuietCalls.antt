@@ -7,10 +7,9 @@ use Rattle.c_syntax.specs.declared.tree.ProbeMark.{ProbeMark}
 use Rattle.c_syntax.specs.Shape.{TypeOf, DeclShape, decl, DeclShapes, no_decls, more_decls, DeclaratorShape, declarator, DeclaratorShapes, no_declarators, more_declarators, DeclFormShape, arrays, function, ParamsShape, empty, void, params, MaybeInit, CompoundShape, braces, ExternalShape, defined, declared}
 use Rattle.c_store.specs.declared.value.Value.{Value}
 use Rattle.c_store.specs.Cells.{made, literal_cells}
-use Rattle.c_tree.specs.Tables.{TablesShape}
-use Rattle.c_tree.specs.State.{row}
-use Rattle.c_tree.specs.Parts.{text_of}
-use Rattle.c_items.specs.Units.{function_of}
+use Rattle.c_tables.specs.Tables.{TablesShape}
+use Rattle.c_tables.specs.Rows.{row, text_of}
+use Rattle.c_walk.specs.Units.{function_of}
 use Rattle.c_meaning.specs.declared.end.Flow.{Flow}
 use Rattle.c_meaning.specs.declared.end.Flow.TheVariants.{Next, Break, Continue, Return}
 use Rattle.c_meaning.specs.declared.end.Stop.TheVariants as stop

@@ -1,12 +1,12 @@
 -- The same of statements, calls and runs.
 use Rattle.std.proofs.Common.{◌≡◌, ℕ, suc, ◌+◌, map, Option, Bool, true, false, ◌∙◌, refl, sym, ap}
 use Rattle.std.specs.Prelude.{◌||◌}
-use Rattle.atac_base.specs.declared.place.Pos.{Pos}
+use Rattle.c_base.specs.declared.place.Pos.{Pos}
 use Rattle.c_syntax.specs.declared.tree.Named.{Named}
 use Rattle.c_syntax.specs.Shape.{TypeOf, int, pointer, array, structure, nothing, NodeShape, MaybeNode, no_node, one_node, DeclShape, decl, DeclShapes, no_decls, more_decls, DeclaratorShape, declarator, DeclaratorShapes, no_declarators, more_declarators, arrays, function, MaybeInit, no_init, one_init, one, listed, StmtShape, stmt, FormShape, compound, simply, when, either, while, do_while, for, switch, break, continue, return, CompoundShape, braces, ItemShapes, no_items, more_items}
-use Rattle.c_tree.specs.Tables.{TablesShape}
-use Rattle.c_items.specs.Walked.{with_block_if}
-use Rattle.c_items.specs.Stating.{splits, is_labelled, pos_of_stmt}
+use Rattle.c_tables.specs.Tables.{TablesShape}
+use Rattle.c_walk.specs.Walked.{with_block_if}
+use Rattle.c_walk.specs.Stating.{splits, is_labelled, pos_of_stmt}
 use Rattle.c_meaning.specs.declared.end.Flow.{Flow}
 use Rattle.c_meaning.specs.declared.end.Flow.TheVariants.{Next, Break, Continue, Return}
 use Rattle.c_meaning.specs.State.{State}

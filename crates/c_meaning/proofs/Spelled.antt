@@ -1,6 +1,6 @@
 -- How worked programs are spelled: bare units, which the checker's definition types. All places are 1:1.
 use Rattle.std.proofs.Common.{ℕ, ◌+◌, List, [], ◌∷◌, Option, Some, None}
-use Rattle.atac_base.specs.declared.place.Pos.{Pos}
+use Rattle.c_base.specs.declared.place.Pos.{Pos}
 use Rattle.c_syntax.specs.declared.text.Text.{Text}
 use Rattle.c_syntax.specs.declared.token.Key.TheVariants as key
 use Rattle.c_syntax.specs.declared.tree.Named.{Named}
@@ -9,7 +9,7 @@ use Rattle.c_syntax.specs.declared.tree.BinaryOp.{BinaryOp}
 use Rattle.c_syntax.specs.declared.tree.UnaryOp.{UnaryOp}
 use Rattle.c_syntax.specs.Shape.{bare, number, name, unary, plain, assign, dot, NodeShape, node, ExprShape, leaf, call, prefix, suffix, two, index, field, NodeShapes, no_nodes, more_nodes, one_node, no_lengths, more_lengths, SpecShapes, no_specs, more_specs, word, DeclShape, decl, DeclShapes, no_decls, more_decls, DeclaratorShape, declarator, no_declarators, more_declarators, arrays, function, void, params, MaybeInit, no_init, one_init, one, StmtShape, stmt, FormShape, compound, simply, return, braces, ItemShapes, no_items, more_items, ExternalShape, defined, UnitShape}
 use Rattle.c_tree.specs.Units.{TypedUnit, typed_unit}
-use Rattle.atac_base.specs.declared.probes.Event.{Event}
+use Rattle.c_events.specs.declared.events.Event.{Event}
 use Rattle.c_meaning.specs.declared.end.End.{End}
 use Rattle.c_meaning.specs.Calls.{Source}
 use Rattle.c_meaning.specs.Runs.{Outcome, run_heard}

@@ -1,12 +1,12 @@
 -- What each step of a run keeps, the parts of expressions keep.
 use Rattle.std.proofs.Common.{◌≡◌, ℕ, zero, suc, ◌≤◌, ◌-◌, ◌+◌, List, [], ◌∷◌, ◌++◌, length, Option, Some, None, Result, Ok, Err, Bool, true, false, refl, arith}
 use Rattle.std.specs.Prelude.{nat_le, nat_lt, bytes_eq, replicate, if◌then◌else◌}
-use Rattle.atac_base.specs.declared.probes.Event.{Event}
+use Rattle.c_events.specs.declared.events.Event.{Event}
 use Rattle.c_syntax.specs.declared.text.Text.{Text}
 use Rattle.c_syntax.specs.declared.tree.Named.{Named}
 use Rattle.c_syntax.specs.Shape.{TypeOf, int, pointer, array, structure, nothing, NoteShape, bare, typed, known, NodeShape}
-use Rattle.c_values.specs.declared.numbers.Number.{Number}
-use Rattle.c_values.specs.Probes.{probe_number_of}
+use Rattle.c_constants.specs.declared.numbers.Number.{Number}
+use Rattle.c_constants.specs.Probes.{probe_number_of}
 use Rattle.c_store.specs.declared.value.Value.{Value}
 use Rattle.c_store.specs.declared.value.Value.TheVariants.{Int, Null, At}
 use Rattle.c_store.specs.declared.value.Pointer.{Pointer}
@@ -14,10 +14,10 @@ use Rattle.c_store.specs.declared.value.Fault.{Fault}
 use Rattle.c_store.specs.declared.value.Fault.TheVariants.{WriteLiteral}
 use Rattle.c_store.specs.declared.value.MakeErr.TheVariants.{Room}
 use Rattle.c_store.specs.Cells.{Cells, Slot, cell_count, read_of, write_of, write_in, replace, with_value, cell_of, selected, element_of, made}
-use Rattle.c_tree.specs.Tables.{TablesShape}
-use Rattle.c_tree.specs.Builtins.{builtin_name}
-use Rattle.c_tree.specs.declared.meaning.Builtin.TheVariants.{GetChar, PutChar, Exit}
-use Rattle.c_items.specs.Tests.{is_logical}
+use Rattle.c_tables.specs.Tables.{TablesShape}
+use Rattle.c_tables.specs.Builtins.{builtin_name}
+use Rattle.c_tables.specs.declared.builtins.Builtin.TheVariants.{GetChar, PutChar, Exit}
+use Rattle.c_walk.specs.Tests.{is_logical}
 use Rattle.c_meaning.specs.State.{Act, tells, repeats, State, instance_of}
 use Rattle.c_meaning.specs.Results.{Got, Gives, Stops, then_do, turn_of, turn, turns, untyped, settled, present, needed}
 use Rattle.c_meaning.specs.Layout.{Part, cells, part_in}
@@ -46,7 +46,7 @@ abbrev pub state_in : {A : Type 0} → Got A → State
 state_in (Gives a s) = s
 state_in (Stops why s) = s
 
-module _ (R C Q : State → State → Type 0) (lasts : Lasts R C Q) where
+module _ (R C Q S : State → State → Type 0) (lasts : Lasts R C Q S) where
   -- ---- in general
 
   pub at_rest : {A : Type 0} (r : Got A) (s : State) → R s (state_in r) → Lasted R Q s r
@@ -63,9 +63,9 @@ module _ (R C Q : State → State → Type 0) (lasts : Lasts R C Q) where
   then_kept s (Stops why t) g p go = record { holds = p.holds }
 
   -- a whole call, as a part of the call that it stands in
-  pub call_kept : {A : Type 0} (s : State) (r : Got A) → Lasted C Q s r → Lasted R Q s r
+  pub call_kept : {A : Type 0} (s : State) (r : Got A) → Lasted C S s r → Lasted R Q s r
   call_kept s (Gives a t) p = record { holds = lasts.called s t p.holds }
-  call_kept s (Stops why t) p = record { holds = p.holds }
+  call_kept s (Stops why t) p = record { holds = lasts.inside_stop s t p.holds }
 
   pub if_kept : {A : Type 0} (s : State) (b : Bool) (r q : Got A) → Lasted R Q s r → Lasted R Q s q → Lasted R Q s (if b then r else q)
   if_kept s true r q l m = l

@@ -2,7 +2,7 @@
 use Rattle.std.proofs.Common.{◌≡◌, ℕ, zero, suc, List, [], ◌∷◌, Option, Some, None, Bool, true, false, ◌∙◌, refl, arith}
 use Rattle.std.specs.Prelude.{nat_le, if◌then◌else◌}
 use Rattle.c_syntax.specs.declared.text.Text.{Text}
-use Rattle.c_values.specs.Probes.{probe_number_of}
+use Rattle.c_constants.specs.Probes.{probe_number_of}
 use Rattle.c_meaning.specs.declared.end.Stop.TheVariants as stop
 use Rattle.c_meaning.specs.State.{State}
 use Rattle.c_meaning.specs.Results.{Got, Gives, Stops, then_do, turn_of, turn, turns}

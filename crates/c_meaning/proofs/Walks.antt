@@ -1,23 +1,22 @@
 -- What the walk over a program has counted stays counted further on.
 use Rattle.std.proofs.Common.{ℕ, ◌≤◌, ◌++◌, List, [], ◌∷◌, Option, Bool, true, false, arith}
 use Rattle.std.specs.Prelude.{◌||◌, if◌then◌else◌}
-use Rattle.atac_base.specs.declared.place.Pos.{Pos}
+use Rattle.c_base.specs.declared.place.Pos.{Pos}
 use Rattle.c_syntax.specs.declared.tree.Named.{Named}
 use Rattle.c_syntax.specs.Shape.{NoteShape, unary, before, size_of, plain, and, or, assign, comma, NodeShape, node, ExprShape, leaf, paren, call, prefix, size_of_type, cast, suffix, two, choose, probe, index, field, behind, NodeShapes, no_nodes, more_nodes, MaybeNode, no_node, one_node, DeclShape, decl, DeclShapes, no_decls, more_decls, DeclaratorShape, declarator, DeclaratorShapes, no_declarators, more_declarators, DeclFormShape, arrays, function, ParamsShape, empty, void, params, MaybeInit, no_init, one_init, one, listed, StmtShape, stmt, FormShape, compound, simply, when, either, while, do_while, for, switch, break, continue, return, CompoundShape, braces, ItemShapes, no_items, more_items, ExternalShape, defined, declared}
-use Rattle.c_tree.specs.Tables.{TablesShape}
-use Rattle.c_items.specs.declared.around.Around.{Around}
-use Rattle.c_items.specs.declared.around.Taken.{Taken}
-use Rattle.c_items.specs.declared.around.Taken.TheVariants.{Read, Changed}
-use Rattle.c_tree.specs.State.{first_place}
-use Rattle.c_tree.specs.Parts.{name_pos, text_of}
-use Rattle.c_items.specs.Items.{Direct, Item, Outcomes, block, decision, def, used, cases}
-use Rattle.c_items.specs.Places.{is_place, has_scalar, direct_form}
-use Rattle.c_items.specs.Tests.{is_logical_form, outcomes_of_form, choosing, case_values}
-use Rattle.c_items.specs.Walked.{Walked, with_item, is_read, is_written, operand_taken, left_taken, with_block, with_block_if, pos_of, inside, inside_test, with_decision, with_test, with_def, with_use, with_sites, with_site}
-use Rattle.c_items.specs.Walking.{walk_node, walk_form, walk_test, walk_arm, walk_nodes, walk_maybe, walk_loop_test, walk_maybe_test, walk_step}
-use Rattle.c_items.specs.Stating.{whole, with_variable, with_whole_def, walk_maybe_init, walk_declarator, walk_declarators, walk_decl, walk_decls, pos_of_stmt, splits, is_labelled, walk_choice, walk_stmt, walk_body, walk_part, walk_compound, walk_items}
-use Rattle.c_items.specs.Units.{define_declarator, define_declarators, define_decl, define_decls, define_params, define_parameters, function_of, in_function, walk_function, walk_external, walk_externals}
-use Rattle.c_meaning.specs.Firsts.{block_count, def_count, use_count}
+use Rattle.c_tables.specs.Tables.{TablesShape}
+use Rattle.c_walk.specs.declared.around.Around.{Around}
+use Rattle.c_walk.specs.declared.around.Taken.{Taken}
+use Rattle.c_walk.specs.declared.around.Taken.TheVariants.{Read, Changed}
+use Rattle.c_tables.specs.Rows.{first_place, name_pos, text_of}
+use Rattle.c_walk.specs.Items.{Direct, Item, Outcomes, block, decision, def, used, cases}
+use Rattle.c_walk.specs.Places.{is_place, has_scalar, direct_form}
+use Rattle.c_walk.specs.Tests.{is_logical_form, outcomes_of_form, choosing, case_values}
+use Rattle.c_walk.specs.Walked.{Walked, with_item, is_read, is_written, operand_taken, left_taken, with_block, with_block_if, pos_of, inside, inside_test, with_decision, with_test, with_def, with_use, with_sites, with_site}
+use Rattle.c_walk.specs.Walking.{walk_node, walk_form, walk_test, walk_arm, walk_nodes, walk_maybe, walk_loop_test, walk_maybe_test, walk_step}
+use Rattle.c_walk.specs.Stating.{whole, with_variable, with_whole_def, walk_maybe_init, walk_declarator, walk_declarators, walk_decl, walk_decls, pos_of_stmt, splits, is_labelled, walk_choice, walk_stmt, walk_body, walk_part, walk_compound, walk_items}
+use Rattle.c_walk.specs.Units.{define_declarator, define_declarators, define_decl, define_decls, define_params, define_parameters, function_of, in_function, walk_function, walk_external, walk_externals}
+use Rattle.c_walk.specs.Counted.{block_count, def_count, use_count}
 use Rattle.c_meaning.specs.Counts.{IsBefore}
 
 -- ---- in general

@@ -1,8 +1,8 @@
 -- Worked runs: calls, a switch, and the limits of calls and cells.
 use Rattle.std.proofs.Common.{◌≡◌, ℕ, pos, List, [], ◌∷◌, replicate, refl}
-use Rattle.atac_base.specs.declared.place.Cell.{Cell}
-use Rattle.atac_base.specs.declared.probes.Event.{Event}
-use Rattle.atac_base.specs.declared.probes.Event.TheVariants.{Block, Def, Use, Test}
+use Rattle.c_events.specs.declared.events.Cell.{Cell}
+use Rattle.c_events.specs.declared.events.Event.{Event}
+use Rattle.c_events.specs.declared.events.Event.TheVariants.{Block, Def, Use, Test}
 use Rattle.c_arith.specs.Arith.{pattern, value_of, fitted, shift_count, unary_result, binary_result}
 use Rattle.c_syntax.specs.declared.tree.BinaryOp.TheVariants as op
 use Rattle.c_syntax.specs.Shape.{char, leaf, no_nodes, when, switch, break, no_items, more_items, case, default, NodeShape, ItemShapes, ExternalShape}

@@ -1,8 +1,8 @@
 -- Worked runs: arrays, structures, pointers, strings and initialisers.
 use Rattle.std.proofs.Common.{◌≡◌, ℕ, pos, List, [], ◌∷◌, false, refl}
-use Rattle.atac_base.specs.declared.place.Cell.{Cell}
-use Rattle.atac_base.specs.declared.probes.Event.{Event}
-use Rattle.atac_base.specs.declared.probes.Event.TheVariants.{Block, Def, Use, Test}
+use Rattle.c_events.specs.declared.events.Cell.{Cell}
+use Rattle.c_events.specs.declared.events.Event.{Event}
+use Rattle.c_events.specs.declared.events.Event.TheVariants.{Block, Def, Use, Test}
 use Rattle.c_arith.specs.Arith.{pattern, value_of, fitted, shift_count, unary_result, binary_result}
 use Rattle.c_syntax.specs.declared.text.Text.{Text}
 use Rattle.c_syntax.specs.declared.token.Key.TheVariants as key
@@ -163,6 +163,6 @@ lists_and_addresses = refl
 -- int main(void){int x;int b[2]={1,2};return 0;}: what main did by itself. The definition of b is one, told of each cell
 own_of_main : own 1 (run_heard (program (main_with (an_int x ∷ of ints (declarator [] (named b) (arrays (more_lengths (one_node (digit 2)) no_lengths)) (one_init (listed p (more_inits (one (digit 1)) (more_inits (one (digit 2)) no_inits)) false))) ∷ [])
     (give (digit 0)) ∷ [])) [] 100).deeds
-    ≡ begins 1 ∷ tells (Block 1) ∷ makes 1 ∷ makes 2 ∷ tells (Def 1 (cell 2 0)) ∷ repeats (Def 1 (cell 2 1)) ∷ []
+    ≡ begins 1 ∷ tells (Block 1) ∷ makes 1 1 ∷ makes 2 2 ∷ tells (Def 1 (cell 2 0)) ∷ repeats (Def 1 (cell 2 1)) ∷ []
 unfolding pattern value_of fitted shift_count unary_result binary_result calls
 own_of_main = refl

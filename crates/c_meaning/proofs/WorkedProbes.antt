@@ -1,8 +1,8 @@
 -- Worked runs: programs with probes. Their logs are the events of the programs without them.
 use Rattle.std.proofs.Common.{◌≡◌, ℕ, pos, ◌+◌, List, [], ◌∷◌, Some, refl}
-use Rattle.atac_base.specs.declared.place.Cell.{Cell}
-use Rattle.atac_base.specs.declared.probes.Event.{Event}
-use Rattle.atac_base.specs.declared.probes.Event.TheVariants.{Block, Def, Use, Test}
+use Rattle.c_events.specs.declared.events.Cell.{Cell}
+use Rattle.c_events.specs.declared.events.Event.{Event}
+use Rattle.c_events.specs.declared.events.Event.TheVariants.{Block, Def, Use, Test}
 use Rattle.c_arith.specs.Arith.{pattern, value_of, fitted, shift_count, unary_result, binary_result}
 use Rattle.c_syntax.specs.declared.text.Text.{Text}
 use Rattle.c_syntax.specs.declared.tree.ProbeMark.{ProbeMark}

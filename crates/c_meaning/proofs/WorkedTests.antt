@@ -1,7 +1,7 @@
 -- Worked runs: tests, conditional expressions, commas and the other operators that choose.
 use Rattle.std.proofs.Common.{◌≡◌, ℕ, pos, List, [], ◌∷◌, Some, refl}
-use Rattle.atac_base.specs.declared.place.Cell.{Cell}
-use Rattle.atac_base.specs.declared.probes.Event.TheVariants.{Block, Def, Use, Test}
+use Rattle.c_events.specs.declared.events.Cell.{Cell}
+use Rattle.c_events.specs.declared.events.Event.TheVariants.{Block, Def, Use, Test}
 use Rattle.c_arith.specs.Arith.{pattern, value_of, fitted, shift_count, unary_result, binary_result}
 use Rattle.c_syntax.specs.declared.token.Key.TheVariants as key
 use Rattle.c_syntax.specs.declared.tree.BinaryOp.TheVariants as op

@@ -1,16 +1,16 @@
 -- Calls, and the functions that every program has (C89, 4.9.7.6, 4.9.7.9, 4.10.4.3).
 use Rattle.std.specs.Prelude.{ℕ, ℤ, pos, negsuc, ◌++◌, List, [], ◌∷◌, bytes_eq, unsigned_abs, Option, Some, None, is_some, if◌then◌else◌}
 use Rattle.std.specs.Int.{int_rem_euclid}
-use Rattle.atac_base.specs.declared.place.IntKind.TheVariants.{Int as AnInt}
+use Rattle.c_base.specs.declared.place.IntKind.TheVariants.{Int as AnInt}
 use Rattle.c_arith.specs.Arith.{wrap}
 use Rattle.c_syntax.specs.declared.text.Text.{Text}
 use Rattle.c_syntax.specs.Shape.{TypeOf, NoteShape, typed}
 use Rattle.c_store.specs.declared.value.Value.{Value}
 use Rattle.c_store.specs.declared.value.Value.TheVariants.{Int}
-use Rattle.c_tree.specs.Tables.{FunctionShape, TablesShape}
-use Rattle.c_tree.specs.State.{row}
-use Rattle.c_tree.specs.Builtins.{builtin_name}
-use Rattle.c_tree.specs.declared.meaning.Builtin.TheVariants.{GetChar, PutChar, Exit}
+use Rattle.c_tables.specs.Tables.{FunctionShape, TablesShape}
+use Rattle.c_tables.specs.Rows.{row}
+use Rattle.c_tables.specs.Builtins.{builtin_name}
+use Rattle.c_tables.specs.declared.builtins.Builtin.TheVariants.{GetChar, PutChar, Exit}
 use Rattle.c_meaning.specs.declared.end.Stop.TheVariants as stop
 use Rattle.c_meaning.specs.State.{State}
 use Rattle.c_meaning.specs.Results.{Got, Gives, Stops, untyped}

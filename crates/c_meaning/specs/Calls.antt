@@ -3,10 +3,9 @@ use Rattle.std.specs.Prelude.{ℕ, zero, suc, List, [], ◌∷◌, length, nat_e
 use Rattle.c_syntax.specs.declared.tree.ProbeMark.{ProbeMark}
 use Rattle.c_syntax.specs.Shape.{TypeOf, nothing, DeclShape, decl, DeclShapes, no_decls, more_decls, declarator, no_declarators, more_declarators, DeclFormShape, arrays, function, ParamsShape, params, CompoundShape, braces, ExternalShape, defined, declared, UnitShape}
 use Rattle.c_store.specs.declared.value.Value.{Value}
-use Rattle.c_tree.specs.Tables.{FunctionShape, TablesShape}
-use Rattle.c_tree.specs.State.{row}
-use Rattle.c_tree.specs.Parts.{text_of}
-use Rattle.c_items.specs.Units.{function_of, in_function}
+use Rattle.c_tables.specs.Tables.{FunctionShape, TablesShape}
+use Rattle.c_tables.specs.Rows.{row, text_of}
+use Rattle.c_walk.specs.Units.{function_of, in_function}
 use Rattle.c_meaning.specs.declared.end.Flow.{Flow}
 use Rattle.c_meaning.specs.declared.end.Flow.TheVariants.{Next, Return}
 use Rattle.c_meaning.specs.declared.end.Stop.TheVariants as stop

@@ -1,24 +1,24 @@
 -- What is known before a run: case constants (C89, 3.6.4.2), and what a constant initialiser gives (3.4, 3.5.7).
 use Rattle.std.specs.Prelude.{ℕ, suc, ◌+◌, ◌++◌, ℤ, pos, List, [], ◌∷◌, length, map, take, replicate, nat_le, nat_lt, Option, Some, None, option_map, if◌then◌else◌}
 use Rattle.std.specs.Ordering.{int_eq}
-use Rattle.atac_base.specs.declared.place.IntKind.{IntKind}
-use Rattle.atac_base.specs.declared.place.IntKind.TheVariants as kinds
+use Rattle.c_base.specs.declared.place.IntKind.{IntKind}
+use Rattle.c_base.specs.declared.place.IntKind.TheVariants as kinds
 use Rattle.c_arith.specs.Arith.{wrap}
 use Rattle.c_syntax.specs.declared.text.Text.{Text}
 use Rattle.c_syntax.specs.declared.tree.UnaryOp.TheVariants as front
 use Rattle.c_syntax.specs.Shape.{TypeOf, array, structure, nothing, NoteShape, bare, typed, known, number, char, str, name, unary, NodeShape, node, ExprShape, leaf, paren, cast, prefix, suffix, two, choose, probe, index, field, dot, simple, block, test, used, def, NodeShapes, no_nodes, more_nodes, InitShape, one, listed, InitShapes, no_inits, more_inits, LabelShape, case, default, ItemShapes, no_items, more_items}
-use Rattle.c_values.specs.declared.constants.Constant.{Constant}
-use Rattle.c_values.specs.declared.constants.Constant.TheVariants.{No, Known}
-use Rattle.c_values.specs.Numbers.{number_of}
-use Rattle.c_values.specs.Constants as constants
+use Rattle.c_constants.specs.declared.constants.Constant.{Constant}
+use Rattle.c_constants.specs.declared.constants.Constant.TheVariants.{No, Known}
+use Rattle.c_constants.specs.Numbers.{number_of}
+use Rattle.c_constants.specs.Constants as constants
 use Rattle.c_store.specs.declared.value.Value.{Value}
 use Rattle.c_store.specs.declared.value.Value.TheVariants.{Int, At}
 use Rattle.c_store.specs.declared.value.Pointer.{Pointer}
 use Rattle.c_store.specs.Cells.{cell_of, signed_char}
-use Rattle.c_tree.specs.Tables.{TablesShape}
-use Rattle.c_tree.specs.State.{row, fields_in}
-use Rattle.c_items.specs.Places.{has_array}
-use Rattle.c_items.specs.Tests.{number_constant, noted_constant, cast_to, joined, case_value}
+use Rattle.c_tables.specs.Tables.{TablesShape}
+use Rattle.c_tables.specs.Rows.{row, fields_in}
+use Rattle.c_walk.specs.Places.{has_array}
+use Rattle.c_walk.specs.Tests.{number_constant, noted_constant, cast_to, joined, case_value}
 use Rattle.c_meaning.specs.State.{Bound, found_in}
 use Rattle.c_meaning.specs.Layout.{Part, cells, zeros, part_in}
 use Rattle.c_meaning.specs.Operators.{converted}

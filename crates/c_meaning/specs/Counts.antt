@@ -2,12 +2,13 @@
 use Rattle.std.specs.Prelude.{ℕ, ◌+◌, Option, Bool, ◌≤◌}
 use Rattle.c_syntax.specs.declared.tree.Named.{Named}
 use Rattle.c_syntax.specs.Shape.{DeclShape, decl, DeclShapes, no_decls, more_decls, DeclaratorShape, declarator, DeclaratorShapes, no_declarators, more_declarators, DeclFormShape, arrays, function, ParamsShape, params, StmtShape, stmt, FormShape, compound, when, either, while, do_while, for, switch, CompoundShape, braces, ItemShapes, no_items, more_items, ExternalShape, defined, declared, MaybeNode}
-use Rattle.c_tree.specs.Tables.{TablesShape}
-use Rattle.c_items.specs.Walked.{Walked, with_block_if}
-use Rattle.c_items.specs.Walking.{walk_maybe, walk_maybe_test, walk_step}
-use Rattle.c_items.specs.Stating.{with_variable, with_whole_def, walk_declarator, walk_decl, walk_decls, walk_stmt, pos_of_stmt}
-use Rattle.c_items.specs.Units.{define_declarator, define_decl, define_params, walk_external}
-use Rattle.c_meaning.specs.Firsts.{First, on, past, block_count, def_count, use_count}
+use Rattle.c_tables.specs.Tables.{TablesShape}
+use Rattle.c_walk.specs.Walked.{Walked, with_block_if}
+use Rattle.c_walk.specs.Walking.{walk_maybe, walk_maybe_test, walk_step}
+use Rattle.c_walk.specs.Stating.{with_variable, with_whole_def, walk_declarator, walk_decl, walk_decls, walk_stmt, pos_of_stmt}
+use Rattle.c_walk.specs.Units.{define_declarator, define_decl, define_params, walk_external}
+use Rattle.c_meaning.specs.Firsts.{First, on, past}
+use Rattle.c_walk.specs.Counted.{block_count, def_count, use_count}
 
 -- ---- variables
 

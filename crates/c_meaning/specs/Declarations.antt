@@ -1,6 +1,6 @@
 -- What declarations do (C89, 3.5): instances are made, bound to their variables, and initialised.
 use Rattle.std.specs.Prelude.{ℕ, suc, List, [], ◌∷◌, replicate, true, Option, Some, None, Result, Ok, Err}
-use Rattle.atac_base.specs.declared.probes.Event.{Event}
+use Rattle.c_events.specs.declared.events.Event.{Event}
 use Rattle.c_syntax.specs.declared.text.Text.{Text}
 use Rattle.c_syntax.specs.declared.tree.Named.{Named}
 use Rattle.c_syntax.specs.declared.tree.ProbeMark.{ProbeMark}
@@ -9,7 +9,7 @@ use Rattle.c_store.specs.declared.value.Value.{Value}
 use Rattle.c_store.specs.declared.value.Pointer.{Pointer}
 use Rattle.c_store.specs.declared.value.MakeErr.{MakeErr}
 use Rattle.c_store.specs.Cells.{Cells, made}
-use Rattle.c_tree.specs.Tables.{TablesShape}
+use Rattle.c_tables.specs.Tables.{TablesShape}
 use Rattle.c_meaning.specs.declared.end.Flow.{Flow}
 use Rattle.c_meaning.specs.declared.end.Flow.TheVariants.{Next}
 use Rattle.c_meaning.specs.declared.end.Stop.TheVariants as stop

@@ -1,6 +1,6 @@
 -- What was done in a run: the events of all of it, and what one activation did by itself, without the calls inside it.
 use Rattle.std.specs.Prelude.{ℕ, List, [], ◌∷◌, nat_eq, if◌then◌else◌}
-use Rattle.atac_base.specs.declared.probes.Event.{Event}
+use Rattle.c_events.specs.declared.events.Event.{Event}
 use Rattle.c_meaning.specs.State.{Act, tells, repeats, Deed}
 
 -- ahead of the events of what follows

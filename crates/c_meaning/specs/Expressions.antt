@@ -1,22 +1,22 @@
 -- What expressions give (C89, 3.3), from left to right. Each but parentheses and probes takes a turn as it begins.
 use Rattle.std.specs.Prelude.{ℕ, ◌+◌, nat_lt, pos, ◌++◌, List, [], ◌∷◌, length, drop, Bool, true, false, Option, Some, None, option_map, if◌then◌else◌}
-use Rattle.atac_base.specs.declared.place.Pos.{Pos}
-use Rattle.atac_base.specs.declared.place.IntKind.TheVariants.{Char}
-use Rattle.atac_base.specs.declared.probes.Event.TheVariants.{Block, Test}
+use Rattle.c_base.specs.declared.place.Pos.{Pos}
+use Rattle.c_base.specs.declared.place.IntKind.TheVariants.{Char}
+use Rattle.c_events.specs.declared.events.Event.TheVariants.{Block, Test}
 use Rattle.c_arith.specs.Arith.{wrap, truth}
 use Rattle.c_syntax.specs.declared.text.Text.{Text}
 use Rattle.c_syntax.specs.declared.tree.UnaryOp.TheVariants as front
 use Rattle.c_syntax.specs.Shape.{TypeOf, nothing, NoteShape, typed, known, Leaf, number, char, str, name, Step, unary, before, size_of, plain, and, or, assign, comma, dot, arrow, NodeShape, node, ExprShape, leaf, paren, call, prefix, size_of_type, cast, suffix, two, choose, probe, index, field, behind, simple, select, block, test, used, def, NodeShapes, no_nodes, more_nodes}
-use Rattle.c_kinds.specs.Kinds.{decay}
-use Rattle.c_values.specs.declared.numbers.Number.{Number}
-use Rattle.c_values.specs.Numbers.{number_of}
+use Rattle.c_type_rules.specs.Kinds.{decay}
+use Rattle.c_constants.specs.declared.numbers.Number.{Number}
+use Rattle.c_constants.specs.Numbers.{number_of}
 use Rattle.c_store.specs.declared.value.Value.{Value}
 use Rattle.c_store.specs.declared.value.Value.TheVariants.{Int, At}
 use Rattle.c_store.specs.declared.value.Pointer.{Pointer}
-use Rattle.c_tree.specs.Tables.{TablesShape}
-use Rattle.c_items.specs.declared.around.Taken.{Taken}
-use Rattle.c_items.specs.declared.around.Taken.TheVariants.{Read, Written, Changed, Addressed}
-use Rattle.c_items.specs.Tests.{choosing}
+use Rattle.c_tables.specs.Tables.{TablesShape}
+use Rattle.c_walk.specs.declared.around.Taken.{Taken}
+use Rattle.c_walk.specs.declared.around.Taken.TheVariants.{Read, Written, Changed, Addressed}
+use Rattle.c_walk.specs.Tests.{choosing}
 use Rattle.c_meaning.specs.State.{tells, State, logged, activation}
 use Rattle.c_meaning.specs.Results.{Got, Gives, then_do, turn, untyped, settled, needed}
 use Rattle.c_meaning.specs.Operators.{converted, is_true, operated, stepped_by_one, element_pointer, of_one, target, pointed}

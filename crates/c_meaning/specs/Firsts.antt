@@ -1,20 +1,21 @@
 -- What stands before a node: it decides the numbers in what is told of the node, and which variable a local declarator makes, and nothing
--- else. The numbers are those that the walk over the program gives (c_items), of which each step here hands on one.
+-- else. The numbers are those that the walk over the program gives (c_walk), of which each step here hands on one.
 use Rattle.std.specs.Prelude.{ℕ, suc, ◌+◌, List, [], ◌∷◌, Bool, true, false, if◌then◌else◌}
-use Rattle.atac_base.specs.declared.place.Pos.{Pos}
-use Rattle.atac_base.specs.declared.place.Cell.{Cell}
-use Rattle.atac_base.specs.declared.probes.Event.{Event}
-use Rattle.atac_base.specs.declared.probes.Event.TheVariants.{Block, Def, Use, Test}
+use Rattle.c_base.specs.declared.place.Pos.{Pos}
+use Rattle.c_events.specs.declared.events.Cell.{Cell}
+use Rattle.c_events.specs.declared.events.Event.{Event}
+use Rattle.c_events.specs.declared.events.Event.TheVariants.{Block, Def, Use, Test}
 use Rattle.c_syntax.specs.Shape.{NoteShape, NodeShape, node, ExprShape, ItemShapes}
 use Rattle.c_store.specs.declared.value.Pointer.{Pointer}
 use Rattle.c_store.specs.Cells.{cell_of}
-use Rattle.c_items.specs.declared.around.Around.{Around}
-use Rattle.c_items.specs.declared.around.Taken.{Taken}
-use Rattle.c_items.specs.Items.{Item, block, def, used, cases}
-use Rattle.c_items.specs.Tests.{is_logical, choosing, case_values}
-use Rattle.c_items.specs.Walked.{Walked, with_block, with_block_if, pos_of, next_decision, with_decision, inside, inside_test, with_test, with_site}
-use Rattle.c_items.specs.Walking.{walk_node, walk_test, walk_arm}
-use Rattle.c_items.specs.Stating.{walk_choice}
+use Rattle.c_walk.specs.declared.around.Around.{Around}
+use Rattle.c_walk.specs.declared.around.Taken.{Taken}
+use Rattle.c_walk.specs.Items.{Item, block, def, used, cases}
+use Rattle.c_walk.specs.Tests.{is_logical, choosing, case_values}
+use Rattle.c_walk.specs.Counted.{block_count, def_count, use_count}
+use Rattle.c_walk.specs.Walked.{Walked, with_block, with_block_if, pos_of, next_decision, with_decision, inside, inside_test, with_test, with_site}
+use Rattle.c_walk.specs.Walking.{walk_node, walk_test, walk_arm}
+use Rattle.c_walk.specs.Stating.{walk_choice}
 use Rattle.c_meaning.specs.State.{Act, begins, makes, tells, State, activation, did}
 
 -- how many variables are declared before it; where something is told, all that is counted before it, and what stands around it
@@ -78,23 +79,6 @@ behind_choice e items i = on (λ c w. walk_choice c e items w) i
 abbrev pub at_block : Bool → Pos → First → First
 at_block b p i = on (λ c w. with_block_if b p w) i
 
--- ---- how many blocks, definitions and uses are counted
-
-abbrev pub block_count : List Item → ℕ
-block_count [] = 0
-block_count (block p ∷ items) = suc (block_count items)
-block_count (i ∷ items) = block_count items
-
-abbrev pub def_count : List Item → ℕ
-def_count [] = 0
-def_count (def p f d ∷ items) = suc (def_count items)
-def_count (i ∷ items) = def_count items
-
-abbrev pub use_count : List Item → ℕ
-use_count [] = 0
-use_count (used p f d o ∷ items) = suc (use_count items)
-use_count (i ∷ items) = use_count items
-
 -- ---- what is told
 
 abbrev pub cell_at : Pointer → Cell
@@ -129,10 +113,10 @@ abbrev pub noted_def : (Event → Act) → First → Pointer → State → State
 noted_def way (quiet n) q s = s
 noted_def way (heard c w) q s = did (way (Def (suc (def_count w.items)) (cell_at q))) s
 
--- the instance of the variable is made
+-- the instance of the variable is made, the last one of the store
 abbrev pub noted_made : First → ℕ → State → State
 noted_made (quiet n) v s = s
-noted_made (heard c w) v s = did (makes v) s
+noted_made (heard c w) v s = did (makes v s.store.count) s
 
 -- a call of the function begins
 abbrev pub noted_begun : First → ℕ → State → State

@@ -1,9 +1,9 @@
 -- Relations between a state and a later one that each step of a run keeps, and so the whole of what a part of a program does.
 use Rattle.std.specs.Prelude.{◌≡◌, ◌≤◌, ◌<◌, ◌⊎◌, ℕ, List, ◌++◌, map, All}
-use Rattle.atac_base.specs.declared.probes.Event.{Event}
+use Rattle.c_events.specs.declared.events.Event.{Event}
 use Rattle.c_store.specs.declared.value.Value.{Value}
 use Rattle.c_store.specs.Cells.{Cells}
-use Rattle.c_items.specs.declared.around.Taken.{Taken}
+use Rattle.c_walk.specs.declared.around.Taken.{Taken}
 use Rattle.c_meaning.specs.State.{Act, Bound, Call, Deed, State, activation, did, logged, in_call}
 use Rattle.c_meaning.specs.Results.{Got, Gives, Stops}
 use Rattle.c_meaning.specs.Firsts.{First}
@@ -12,8 +12,8 @@ use Rattle.c_meaning.specs.Expressions.{Meaning}
 use Rattle.c_meaning.specs.Calls.{activated, left}
 
 -- The first relation holds between a state and what a part of a call comes to, the second between a state and what a whole call comes to,
--- and the third between a state and one in which the run stops.
-pub record Lasts (R C Q : State → State → Type 0) : Type 0 where
+-- the third between a state and one in which the run stops, and the fourth between a state and one in which it stops in a call.
+pub record Lasts (R C Q S : State → State → Type 0) : Type 0 where
   pub same : (s : State) → R s s
   pub further : (s t u : State) → R s t → R t u → R s u
   -- turns are taken; instances are made, written and ended, and no number is given twice
@@ -32,7 +32,9 @@ pub record Lasts (R C Q : State → State → Type 0) : Type 0 where
   pub called : (s t : State) → C s t → R s t
   pub stopped : (s t : State) → R s t → Q s t
   pub further_stop : (s t u : State) → R s t → Q t u → Q s u
-  pub call_stop : (s : State) (f : ℕ) (t : State) → Q (activated f s) t → Q s t
+  pub call_stop : (s : State) (f : ℕ) (t : State) → Q (activated f s) t → S s t
+  pub not_begun : (s : State) → S s s
+  pub inside_stop : (s t : State) → S s t → Q s t
 
 abbrev pub Holds : {A : Type 0} → (R Q : State → State → Type 0) → State → Got A → Type 0
 Holds R Q s (Gives a t) = R s t
@@ -43,8 +45,8 @@ pub record Lasted {A : Type 0} (R Q : State → State → Type 0) (s : State) (r
   pub holds : Holds R Q s r
 
 -- what is behind a call or a loop's further turns keeps the relations
-pub record Keeps (R C Q : State → State → Type 0) (k : Knot) : Type 0 where
-  pub call_keeps : (f : ℕ) (vs : List Value) (s : State) → Lasted C Q s (k.call f vs s)
+pub record Keeps (R C Q S : State → State → Type 0) (k : Knot) : Type 0 where
+  pub call_keeps : (f : ℕ) (vs : List Value) (s : State) → Lasted C S s (k.call f vs s)
   pub again_keeps : (l : Loop) (s : State) → Lasted R Q s (k.again l s)
 
 -- so does an expression, as a value and as a place

@@ -5,8 +5,8 @@ use Rattle.c_syntax.specs.declared.text.Text.{Text}
 use Rattle.c_syntax.specs.Shape.{TypeOf, int, pointer, array, structure, nothing}
 use Rattle.c_store.specs.declared.value.Value.{Value}
 use Rattle.c_store.specs.declared.value.Value.TheVariants.{Int, Null}
-use Rattle.c_tree.specs.Tables.{StructShape, FieldShape, VariableShape, TablesShape}
-use Rattle.c_tree.specs.State.{row, fields_in}
+use Rattle.c_tables.specs.Tables.{StructShape, FieldShape, VariableShape, TablesShape}
+use Rattle.c_tables.specs.Rows.{row, fields_in}
 
 -- ---- scalars
 

@@ -12,6 +12,7 @@ pub mod Counts
 pub mod Declarations
 pub mod Statements
 pub mod Calls
+pub mod Sources
 pub mod Runs
 pub mod Deeds
 pub mod Lasting

@@ -1,7 +1,7 @@
 -- What the operators make of values (C89, 3.3), by the types of their operands. An array as an operand has become a pointer.
 use Rattle.std.specs.Prelude.{ℤ, pos, neg_ℤ, Bool, true, false, not, Option, Some, None, Result, Ok, Err}
-use Rattle.atac_base.specs.declared.place.IntKind.{IntKind}
-use Rattle.atac_base.specs.declared.place.IntKind.TheVariants.{Int as AnInt}
+use Rattle.c_base.specs.declared.place.IntKind.{IntKind}
+use Rattle.c_base.specs.declared.place.IntKind.TheVariants.{Int as AnInt}
 use Rattle.c_arith.specs.declared.ArithUnary.{ArithUnary}
 use Rattle.c_arith.specs.declared.ArithUnary.TheVariants as one
 use Rattle.c_arith.specs.declared.ArithFault.{ArithFault}
@@ -12,8 +12,8 @@ use Rattle.c_syntax.specs.declared.tree.UnaryOp.TheVariants as front
 use Rattle.c_syntax.specs.declared.tree.BinaryOp.{BinaryOp}
 use Rattle.c_syntax.specs.declared.tree.BinaryOp.TheVariants as op
 use Rattle.c_syntax.specs.Shape.{TypeOf, int, pointer, nothing, Step, up, down}
-use Rattle.c_kinds.specs.Kinds.{promote}
-use Rattle.c_values.specs.Constants.{is_zero, arith_of, computing_kind, right_operand}
+use Rattle.c_type_rules.specs.Kinds.{promote}
+use Rattle.c_constants.specs.Constants.{is_zero, arith_of, computing_kind, right_operand}
 use Rattle.c_store.specs.declared.value.Value.{Value}
 use Rattle.c_store.specs.declared.value.Value.TheVariants.{Int, Null, At}
 use Rattle.c_store.specs.declared.value.Pointer.{Pointer}

@@ -1,15 +1,15 @@
 -- What is done with places (C89, 3.2.2.1): variables, parts, reading and writing; and the probes round them.
 use Rattle.std.specs.Prelude.{ℕ, suc, ◌+◌, ◌*◌, nat_le, ◌&&◌, Bool, ◌++◌, List, [], ◌∷◌, Option, Some, None, if◌then◌else◌}
-use Rattle.atac_base.specs.declared.probes.Event.{Event}
-use Rattle.atac_base.specs.declared.probes.Event.TheVariants.{Def, Use}
+use Rattle.c_events.specs.declared.events.Event.{Event}
+use Rattle.c_events.specs.declared.events.Event.TheVariants.{Def, Use}
 use Rattle.c_syntax.specs.declared.text.Text.{Text}
 use Rattle.c_syntax.specs.Shape.{TypeOf, int, pointer, array, structure, nothing, NoteShape, typed, Probing, used, def, NodeShape, node, ExprShape, paren, probe, simple}
-use Rattle.c_values.specs.Probes.{probe_number_of}
+use Rattle.c_constants.specs.Probes.{probe_number_of}
 use Rattle.c_store.specs.declared.value.Value.{Value}
 use Rattle.c_store.specs.declared.value.Value.TheVariants.{At}
 use Rattle.c_store.specs.declared.value.Pointer.{Pointer}
 use Rattle.c_store.specs.Cells.{read_of, write_of, selected}
-use Rattle.c_tree.specs.Tables.{TablesShape}
+use Rattle.c_tables.specs.Tables.{TablesShape}
 use Rattle.c_meaning.specs.State.{Act, tells, State, logged, activation, instance_of}
 use Rattle.c_meaning.specs.Results.{Got, Gives, then_do, untyped, settled, present}
 use Rattle.c_meaning.specs.Layout.{Part, cells, part_in}

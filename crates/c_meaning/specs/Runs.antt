@@ -1,17 +1,17 @@
 -- A whole run (C89, 2.1.2.2.1): the objects of file scope are made, and main is called.
 use Rattle.std.specs.Prelude.{ℕ, ◌-◌, pos, List, [], ◌∷◌, false, Option, Some, None}
-use Rattle.atac_base.specs.declared.probes.Event.{Event}
-use Rattle.atac_base.specs.declared.place.IntKind.TheVariants.{Int as AnInt}
+use Rattle.c_events.specs.declared.events.Event.{Event}
+use Rattle.c_base.specs.declared.place.IntKind.TheVariants.{Int as AnInt}
 use Rattle.c_arith.specs.Arith.{wrap}
 use Rattle.c_syntax.specs.declared.text.Text.{Text}
 use Rattle.c_syntax.specs.Shape.{ExternalShape, defined, declared}
 use Rattle.c_store.specs.declared.value.Value.{Value}
 use Rattle.c_store.specs.declared.value.Value.TheVariants.{Int}
 use Rattle.c_store.specs.Cells.{made, literal_cells}
-use Rattle.c_tree.specs.Tables.{FunctionShape, TablesShape}
-use Rattle.c_tree.specs.State.{row, number_from}
+use Rattle.c_tables.specs.Tables.{FunctionShape, TablesShape}
+use Rattle.c_tables.specs.Rows.{row, number_from}
 use Rattle.c_tree.specs.Units.{is_main}
-use Rattle.c_items.specs.Units.{no_items, in_function}
+use Rattle.c_walk.specs.Units.{no_items, in_function}
 use Rattle.c_meaning.specs.declared.end.End.{End}
 use Rattle.c_meaning.specs.declared.end.End.TheVariants as end
 use Rattle.c_meaning.specs.declared.end.Stop.{Stop}

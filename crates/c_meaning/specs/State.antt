@@ -1,15 +1,15 @@
 -- The state of a run (C89, 2.1.2.3): the store, the names that stand for instances in it, what was read and written, what was done.
 use Rattle.std.specs.Prelude.{ℕ, ◌++◌, List, [], ◌∷◌, nat_eq, Option, Some, None, if◌then◌else◌}
-use Rattle.atac_base.specs.declared.probes.Event.{Event}
+use Rattle.c_events.specs.declared.events.Event.{Event}
 use Rattle.c_store.specs.Cells.{Cells}
 
 -- ---- what a run does at the nodes that are no probes
 
--- a call of that function begins; the instance of that local variable is made; an event; or a further event of the same site, of which
+-- a call of that function begins; that instance of that local variable is made; an event; or a further event of the same site, of which
 -- the cells of one object are told one by one
 pub data Act : Type 0 where
   begins : ℕ → Act
-  makes : ℕ → Act
+  makes : (variable instance : ℕ) → Act
   tells : Event → Act
   repeats : Event → Act
 

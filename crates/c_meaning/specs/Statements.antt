@@ -4,9 +4,9 @@ use Rattle.c_syntax.specs.declared.tree.ProbeMark.{ProbeMark}
 use Rattle.c_syntax.specs.Shape.{NodeShape, MaybeNode, no_node, one_node, LabelShape, case, default, StmtShape, stmt, FormShape, compound, simply, when, either, while, do_while, for, switch, break, continue, return, CompoundShape, braces, ItemShapes, no_items, more_items}
 use Rattle.c_store.specs.declared.value.Value.{Value}
 use Rattle.c_store.specs.Cells.{Cells, ended}
-use Rattle.c_tree.specs.Tables.{TablesShape}
-use Rattle.c_items.specs.Tests.{choosing}
-use Rattle.c_items.specs.Stating.{splits, is_labelled}
+use Rattle.c_tables.specs.Tables.{TablesShape}
+use Rattle.c_walk.specs.Tests.{choosing}
+use Rattle.c_walk.specs.Stating.{splits, is_labelled, case_count, has_default}
 use Rattle.c_meaning.specs.declared.end.Flow.{Flow}
 use Rattle.c_meaning.specs.declared.end.Flow.TheVariants.{Next, Break, Continue, Return}
 use Rattle.c_meaning.specs.State.{Bound, State, in_call, opened, tail_of, top_within}
@@ -42,16 +42,6 @@ pub data Entry : Type 0 where
   here : Entry
   at_case : ℕ → Entry
   at_default : Entry
-
-abbrev pub case_count : List LabelShape → ℕ
-case_count [] = 0
-case_count (case p a ∷ labels) = suc (case_count labels)
-case_count (default p ∷ labels) = case_count labels
-
-abbrev pub has_default : List LabelShape → Bool
-has_default [] = false
-has_default (case p a ∷ labels) = has_default labels
-has_default (default p ∷ labels) = true
 
 abbrev pub is_reached : Entry → List LabelShape → Bool
 is_reached here labels = true

@@ -1,3 +1,5 @@
+//! How runs end and how statements are left, as data.
+
 use c_store::value::{Fault, Value};
 use c_syntax::text::Text;
 

@@ -3,7 +3,7 @@ use Rattle.std.proofs.Common.{◌≡◌, ℕ, suc, ◌+◌, ◌≤◌, ◌<◌, 
 use Rattle.std.specs.Prelude.{map, ◌&&◌}
 use Rattle.std.specs.declared.vec.Vec.{Vec}
 use Rattle.std.specs.declared.alloc.Global.{Global}
-use Rattle.atac_base.specs.declared.place.Pos.{Pos}
+use Rattle.c_base.specs.declared.place.Pos.{Pos}
 use Rattle.c_syntax.specs.declared.token.Mark.TheVariants as marks
 use Rattle.c_syntax.specs.declared.token.Token.{Token}
 use Rattle.c_syntax.specs.declared.token.TokenKind.TheVariants as kind
@@ -26,11 +26,11 @@ use Rattle.c_grammar.specs.Parts.{declaring}
 use Rattle.c_grammar.specs.Found.{Found}
 use Rattle.c_parse.specs.declared.refusal.ParseRefusal.{ParseRefusal}
 use Rattle.c_parse.specs.declared.refusal.ParseRefusal.TheVariants as refusals
-use Rattle.c_forms.specs.StmtReader.{reads_marks, reads_compound, is_function, body_ahead, reads_external, reads_line}
-use Rattle.c_forms.specs.StmtParts.{external_parts, external_rest, function_parts, ReadExternals, ExternalsFrom, NoUnit, SyntaxAt}
+use Rattle.c_grammar_stmt.specs.StmtReader.{reads_marks, reads_compound, is_function, body_ahead, reads_external, reads_line}
+use Rattle.c_grammar_stmt.specs.StmtParts.{external_parts, external_rest, function_parts, ReadExternals, ExternalsFrom, NoUnit, SyntaxAt}
 use Rattle.c_parse.specs.Refused.{ExternalsRead, BrokenAt, BrokenBy, Refused}
-use Rattle.c_forms.proofs.StmtSteps.{external_found, external_plain, external_named, external_declared, function_found, function_fails, external_list_start, external_list_more}
-use Rattle.c_forms.proofs.StmtSound.{external_sound}
+use Rattle.c_grammar_stmt.proofs.StmtSteps.{external_found, external_plain, external_named, external_declared, function_found, function_fails, external_list_start, external_list_more}
+use Rattle.c_grammar_stmt.proofs.StmtSound.{external_sound}
 use Rattle.c_parse.proofs.UnitWhole.{no_longer, shorter_by_one, unit_placed, unit_shaped, unit_only, syntax_line, syntax_bare, syntax_external, no_unit_line, no_unit_bare, no_unit_external}
 
 -- EXTERNAL DECLARATIONS

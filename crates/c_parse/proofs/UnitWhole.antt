@@ -1,7 +1,7 @@
 -- Units: what is read is one that the grammar allows, it is the only one, and where none can be read.
 use Rattle.std.proofs.Common.{◌≡◌, ℕ, zero, suc, ◌+◌, ◌≤◌, ◌<◌, List, [], ◌∷◌, length, Option, Some, None, true, false, refl, sym, ap, ◌∙◌, subst, arith, inl, inr}
 use Rattle.std.specs.Prelude.{◌≢◌, map}
-use Rattle.atac_base.specs.declared.place.Pos.{Pos}
+use Rattle.c_base.specs.declared.place.Pos.{Pos}
 use Rattle.c_syntax.specs.declared.text.Text.{Text}
 use Rattle.c_syntax.specs.declared.token.Mark.TheVariants as marks
 use Rattle.c_syntax.specs.declared.token.ProbeWord.TheVariants as words
@@ -17,14 +17,14 @@ use Rattle.c_syntax.specs.Levels.{external_height, externals_height}
 use Rattle.c_syntax.specs.Shaped.{ShapedExternal, ShapedExternals, ShapedUnit}
 use Rattle.c_syntax.specs.View.{external_shape}
 use Rattle.c_grammar.specs.Look.{got, then_go, either_way, Finds, after, after_probe, string_head, a_string, is_spec, spec_of_head, spec_head}
-use Rattle.c_forms.specs.StmtReader.{line_end, line_closed, line_from, line_got, reads_line, external_onto, external_more, reads_external, reads_externals, unit_at}
-use Rattle.c_forms.specs.StmtParts.{ReadExternals, ExternalsFrom, Front, BehindLongest, SyntaxAt, NoUnit}
+use Rattle.c_grammar_stmt.specs.StmtReader.{line_end, line_closed, line_from, line_got, reads_line, external_onto, external_more, reads_external, reads_externals, unit_at}
+use Rattle.c_grammar_stmt.specs.StmtParts.{ReadExternals, ExternalsFrom, Front, BehindLongest, SyntaxAt, NoUnit}
 use Rattle.c_grammar.proofs.Looking.{got_eq, not_got, went, opened, same_answer, after_is, after_of, after_probe_is, after_probe_of, expect_is, string_is}
 use Rattle.c_grammar.proofs.ExprSound.{moved}
 use Rattle.c_grammar.proofs.CompleteDecl.{specs_begin}
-use Rattle.c_forms.proofs.StmtSteps.{line_none, line_found, nothing_external, externals_read}
-use Rattle.c_forms.proofs.StmtSound.{external_sound}
-use Rattle.c_forms.proofs.StmtComplete.{complete_external}
+use Rattle.c_grammar_stmt.proofs.StmtSteps.{line_none, line_found, nothing_external, externals_read}
+use Rattle.c_grammar_stmt.proofs.StmtSound.{external_sound}
+use Rattle.c_grammar_stmt.proofs.StmtComplete.{complete_external}
 
 -- LENGTHS
 

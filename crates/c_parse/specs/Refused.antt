@@ -1,14 +1,14 @@
 -- What the code reads of units, and where it refuses.
 use Rattle.std.specs.Prelude.{◌≡◌, List, length, None}
-use Rattle.atac_base.specs.declared.place.Pos.{Pos}
+use Rattle.c_base.specs.declared.place.Pos.{Pos}
 use Rattle.c_syntax.specs.declared.token.Token.{Token}
 use Rattle.c_syntax.specs.declared.tree.External.{External}
 use Rattle.c_syntax.specs.Forms.{place}
 use Rattle.c_grammar.specs.Look.{Finds}
 use Rattle.c_parse.specs.declared.refusal.ParseRefusal.{ParseRefusal}
 use Rattle.c_parse.specs.declared.refusal.ParseRefusal.TheVariants as refusals
-use Rattle.c_forms.specs.StmtReader.{reads_external}
-use Rattle.c_forms.specs.StmtParts.{ExternalsFrom, NoUnit, SyntaxAt}
+use Rattle.c_grammar_stmt.specs.StmtReader.{reads_external}
+use Rattle.c_grammar_stmt.specs.StmtParts.{ExternalsFrom, NoUnit, SyntaxAt}
 
 -- these external declarations are all of the tokens
 pub record ExternalsRead (list : List External) (ts : List Token) : Type 0 where

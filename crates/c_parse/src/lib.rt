@@ -1,5 +1,8 @@
 //! The parser: tokens into the one unit that is written by them, or the place where there is none (proofs/UnitWhole).
 #![tactic(auto)]
 
-pub mod refusal;
-pub mod unit;
+mod refusal;
+mod unit;
+
+pub use refusal::ParseRefusal;
+pub use unit::parse;

@@ -1,3 +1,5 @@
+//! Units, read from tokens (C89, 3.7).
+
 ghost use Rattle.std.specs.Prelude.{◌≡◌, ◌&&◌, ◌+◌, ◌<◌, ◌≤◌, max, length, Some, None, IfOk, IfErr, IsErrOf};
 ghost use Rattle.c_syntax.specs.Forms.{place, last_place};
 ghost use Rattle.c_syntax.specs.Grammar.{Placed};
@@ -6,25 +8,25 @@ ghost use Rattle.c_syntax.specs.Shaped.{ShapedUnit};
 ghost use Rattle.c_syntax.specs.Levels.{specs_height, declarator_height};
 ghost use Rattle.c_syntax.specs.View.{spec_list, decl_shape, declarator_shape, external_shape, unit_shape};
 ghost use Rattle.c_grammar.specs.Look.{Finds};
-ghost use Rattle.c_forms.specs.StmtReader.{reads_line, reads_external, is_function, body_ahead};
-ghost use Rattle.c_forms.specs.StmtParts.{external_parts, external_rest, function_parts};
+ghost use Rattle.c_grammar_stmt.specs.StmtReader.{reads_line, reads_external, is_function, body_ahead};
+ghost use Rattle.c_grammar_stmt.specs.StmtParts.{external_parts, external_rest, function_parts};
 ghost use Rattle.c_parse.specs.Refused.{ExternalsRead, BrokenBy, Refused};
 
 use crate::refusal::ParseRefusal;
-use atac_base::place::Pos;
-use c_forms::forms::read_marks;
+use c_base::place::Pos;
 use c_grammar::look::{Standing, Stop, find_string, first_place, past, past_probe};
 use c_grammar::nodes::{boxed, copied, put};
 use c_grammar::size::higher;
-use c_phrase::decl::{read_declarator, read_declaring};
-use c_phrase::spec::read_specifiers;
-use c_stmt::stmt::read_compound;
+use c_parse_expr::decl::{read_declarator, read_declaring};
+use c_parse_expr::spec::read_specifiers;
+use c_parse_stmt::forms::read_marks;
+use c_parse_stmt::stmt::read_compound;
 use c_syntax::token::{Mark, ProbeWord, Token};
 use c_syntax::tree::{Decl, DeclForm, Declarator, External, ProgramLine, Spec, Unit};
 use std::alloc::Global;
 
 // The program line at the front, where there is one, and what follows it.
-#[tactic(auto, using(c_forms::proofs::StmtSteps::line_none, c_forms::proofs::StmtSteps::line_found, c_forms::proofs::StmtSteps::line_bare, c_forms::proofs::StmtSteps::line_stringless, c_forms::proofs::StmtSteps::line_open, c_forms::proofs::StmtSteps::line_unended))]
+#[tactic(auto, using(c_grammar_stmt::proofs::StmtSteps::line_none, c_grammar_stmt::proofs::StmtSteps::line_found, c_grammar_stmt::proofs::StmtSteps::line_bare, c_grammar_stmt::proofs::StmtSteps::line_stringless, c_grammar_stmt::proofs::StmtSteps::line_open, c_grammar_stmt::proofs::StmtSteps::line_unended))]
 fn read_line<'a>(
     alloc: Global,
     input: &'a [Token],
@@ -93,7 +95,7 @@ fn nameless(alloc: Global, pos: Pos, specs: Vec<Spec>) -> Decl
 }
 
 // A function's body with the block probes before it.
-#[tactic(auto, using(crate::proofs::UnitRead::function_read, c_forms::proofs::StmtSteps::function_bare, c_forms::proofs::StmtSteps::function_fails))]
+#[tactic(auto, using(crate::proofs::UnitRead::function_read, c_grammar_stmt::proofs::StmtSteps::function_bare, c_grammar_stmt::proofs::StmtSteps::function_fails))]
 fn read_function<'a>(
     alloc: Global,
     specs: Vec<Spec>,
@@ -115,7 +117,7 @@ fn read_function<'a>(
 }
 
 // An external declaration behind its first declarator; `levels` are those of what stands in front.
-#[tactic(auto, using(c_forms::proofs::StmtSteps::external_defined, crate::proofs::UnitRead::declared_read, c_forms::proofs::StmtSteps::external_undeclared))]
+#[tactic(auto, using(c_grammar_stmt::proofs::StmtSteps::external_defined, crate::proofs::UnitRead::declared_read, c_grammar_stmt::proofs::StmtSteps::external_undeclared))]
 fn read_behind<'a>(
     alloc: Global,
     pos: Pos,
@@ -149,7 +151,7 @@ fn read_behind<'a>(
 }
 
 // An external declaration behind its specifiers, whose levels are `levels`.
-#[tactic(auto, using(crate::proofs::UnitRead::plain_read, crate::proofs::UnitRead::named_read, crate::proofs::UnitRead::named_unread, c_forms::proofs::StmtSteps::external_nameless))]
+#[tactic(auto, using(crate::proofs::UnitRead::plain_read, crate::proofs::UnitRead::named_read, crate::proofs::UnitRead::named_unread, c_grammar_stmt::proofs::StmtSteps::external_nameless))]
 fn read_names<'a>(
     alloc: Global,
     pos: Pos,
@@ -172,7 +174,7 @@ fn read_names<'a>(
 }
 
 // One external declaration, and what follows it.
-#[tactic(auto, using(crate::proofs::UnitRead::external_read, crate::proofs::UnitRead::external_unread, c_forms::proofs::StmtSteps::external_fails, crate::proofs::UnitRead::external_shorter))]
+#[tactic(auto, using(crate::proofs::UnitRead::external_read, crate::proofs::UnitRead::external_unread, c_grammar_stmt::proofs::StmtSteps::external_fails, crate::proofs::UnitRead::external_shorter))]
 fn read_external<'a>(alloc: Global, input: &'a [Token]) -> Result<(External, &'a [Token]), Stop>
     requires tokens { length input.now < 4294967296 }
     ensures found { IfOk result (λ p. Finds reads_external input.now (Some (external_shape p.0, p.1.now))) }

@@ -26,12 +26,6 @@ pub if_first : (f : StmtForm) (n : Node) (s : Box Stmt Global) (other : Option (
 if_first f n s other a ys is e h =
     subst (λ a. Begins (stmt_extents (stmt_shape a)) ys) (sym e) (if_left n s other ys (subst (λ f. Begins (form_extents f) ys) (ap form_shape is ∙ if_open n s other) h))
 
--- with the one behind its `else`
-pub if_both : (f : StmtForm) (n : Node) (s t : Box Stmt Global) (a b : Stmt) (ys : List Extent) → f ≡ form.If n s (Some t) → a ≡ s.value → b ≡ t.value → Begins (form_extents (form_shape f)) ys → Begins (stmt_extents (stmt_shape a) ++ stmt_extents (stmt_shape b)) ys
-if_both f n s t a b ys is e g h =
-    let k = subst (λ f. Begins (form_extents f) ys) (ap form_shape is ∙ if_open n s (Some t)) h in
-    subst (λ a. Begins (stmt_extents (stmt_shape a) ++ stmt_extents (stmt_shape b)) ys) (sym e) (subst (λ b. Begins (stmt_extents (stmt_shape s.value) ++ stmt_extents (stmt_shape b)) ys) (sym g) k)
-
 -- the statements of a `switch`
 pub switch_shape : (f : StmtForm) (n : Node) (v : Vec Item Global) → f ≡ form.Switch n v → form_shape f ≡ switch (node_shape n) (item_list v.items)
 switch_shape f n v is = ap form_shape is ∙ switch_open n v

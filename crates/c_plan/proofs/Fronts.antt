@@ -39,9 +39,6 @@ begins_length xs ys h = omega (arith, ap length (begins_split xs ys h), length-a
 pub begins_first : (x d : Extent) (xs ys : List Extent) → Begins (x ∷ xs) ys → get_or ys 0 d ≡ x
 begins_first x d xs ys h = rw (begins_split (x ∷ xs) ys h) refl
 
-pub begins_rest : (x : Extent) (xs ys : List Extent) → Begins (x ∷ xs) ys → Begins xs (drop 1 ys)
-begins_rest x xs ys h = begins_right (x ∷ []) xs ys 1 h refl
-
 -- behind so many
 pub begins_after : (xs zs ys : List Extent) (n : ℕ) → Begins (xs ++ zs) ys → n ≡ length xs → Begins zs (take (length ys - n) (drop n ys))
 begins_after xs zs ys n h e = rw (sym (length-drop n ys), take-length (drop n ys)) (begins_right xs zs ys n h e)

@@ -6,16 +6,15 @@ use Rattle.std.proofs.Math.Seq.{get_or-append_seam, take-length}
 use Rattle.std.proofs.lemmas.Bool.{eqb-true}
 use borrow.Author.Count.{below_more}
 use Rattle.c_syntax.specs.Shape.{ExternalShape, defined, declared, declarator}
-use Rattle.c_tree.specs.Tables.{TablesShape}
-use Rattle.c_tree.specs.Parts.{text_of}
-use Rattle.c_tree.specs.State.{number_from}
-use Rattle.c_items.specs.Units.{number_or, function_of, has_body}
+use Rattle.c_tables.specs.Tables.{TablesShape}
+use Rattle.c_tables.specs.Rows.{text_of, number_from}
+use Rattle.c_walk.specs.Units.{number_or, function_of, has_body}
 use Rattle.c_meaning.specs.Firsts.{First}
 use Rattle.c_meaning.specs.Counts.{past_external, compound_variables}
 use Rattle.c_meaning.specs.Calls.{Source, Routine, inside_function, routine_in, routine}
 use Rattle.c_meaning.specs.Runs.{silent}
-use Rattle.c_routines.specs.declared.routines.Routine as code
-use Rattle.c_routines.specs.Routines.{routine_of}
+use Rattle.c_plan.specs.declared.routines.Routine as code
+use Rattle.c_plan.specs.Routines.{routine_of}
 use Rattle.c_plan.specs.declared.extent.Extent.{Extent}
 use Rattle.c_plan.specs.declared.start.Start.{Start}
 use Rattle.c_plan.specs.Extents.{compound_extents, body_extents, Begins}

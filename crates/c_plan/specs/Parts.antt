@@ -1,6 +1,6 @@
 -- The parts of statements, with how many variables are declared before each.
 use Rattle.std.specs.Prelude.{◌≡◌, ◌+◌, ℕ, drop, map, Option, Some, None}
-use Rattle.atac_base.specs.declared.place.Pos.{Pos}
+use Rattle.c_base.specs.declared.place.Pos.{Pos}
 use Rattle.c_syntax.specs.Shape.{DeclShapes, DeclaratorShapes, no_declarators, more_declarators, ItemShapes, no_items, more_items, StmtShape, FormShape, when, either, while, do_while, for, switch, CompoundShape, braces}
 use Rattle.c_syntax.specs.View.{declarator_shape, declarator_list, decl_list, label_shape, stmt_shape, item_list}
 use Rattle.c_meaning.specs.Counts.{variables_of, stmt_variables}

@@ -1,12 +1,14 @@
+//! Compound statements: their declarators, and the statements behind them.
+
 ghost use Rattle.std.specs.Prelude.{◌+◌, ◌≤◌};
 ghost use Rattle.c_syntax.specs.View.{declarator_list, decl_list, item_list, compound_shape};
 ghost use Rattle.c_meaning.specs.Counts.{variables_among, items_variables, compound_variables};
 ghost use Rattle.c_plan.specs.Names.{joined, names_of};
 ghost use Rattle.c_plan.specs.Extents.{items_extents, compound_extents, Begins};
 
+use crate::counts::variables_of;
 use crate::extent::Extent;
 use crate::sequence::Sequence;
-use c_routines::counts::variables_of;
 use c_syntax::tree::{Compound, Decl, Declarator, Item};
 
 /// Declarators, the declarations behind them, and the statements behind these; with the extents of the statements, and how

@@ -1,10 +1,14 @@
-//! Where the parts of statements stand: how many variables of the program are declared before each, known at once.
+//! What is known of a program before its run: its functions by their numbers, how many variables its parts declare, and where the
+//! parts of statements stand.
 #![tactic(auto)]
 
 pub mod block;
-pub mod extent;
+pub mod counts;
+mod extent;
 mod listing;
+mod names;
 pub mod placed;
 pub mod plan;
+pub mod routines;
 pub mod sequence;
-pub mod start;
+mod start;

@@ -5,9 +5,9 @@ ghost use Rattle.c_plan.specs.declared.extent.Extent.{Extent};
 ghost use Rattle.c_meaning.specs.Counts.{stmt_variables, form_variables, compound_variables, items_variables};
 ghost use Rattle.c_plan.specs.Extents.{around, stmt_extents, form_extents, compound_extents, items_extents, body_extents};
 
+use crate::counts::decls_variables;
 use crate::extent::Extent;
-use atac_base::place::NoMemory;
-use c_routines::counts::decls_variables;
+use c_base::place::NoMemory;
 use c_syntax::tree::{Compound, Item, Stmt, StmtForm};
 
 /// The sum; there is no memory for 4,294,967,295 variables or more.

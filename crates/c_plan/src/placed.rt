@@ -1,3 +1,5 @@
+//! Statements, with where they stand in the program.
+
 ghost use Rattle.std.specs.Prelude.{◌≡◌, ◌+◌, ◌≤◌, ◌++◌};
 ghost use Rattle.c_syntax.specs.View.{stmt_shape};
 ghost use Rattle.c_meaning.specs.Counts.{stmt_variables};

@@ -1,19 +1,22 @@
+//! The extents of all statements of a program.
+
 ghost use Rattle.std.specs.Prelude.{◌≡◌, ◌+◌, ◌<◌, ℕ, length, Some, IfOk, OnOk};
 ghost use Rattle.c_syntax.specs.View.{decl_form_shape, compound_shape};
 ghost use Rattle.c_meaning.specs.Counts.{signature_variables};
 ghost use Rattle.c_meaning.specs.Calls.{Routine, routine};
 ghost use Rattle.c_meaning.specs.Runs.{silent};
-ghost use Rattle.c_routines.specs.Routines.{source_of, routine_of, IsRouted};
+ghost use Rattle.c_plan.specs.Routines.{routine_of, IsRouted};
+ghost use Rattle.c_meaning.specs.Sources.{source_of};
 ghost use Rattle.c_plan.specs.Extents.{Begins};
 ghost use Rattle.c_plan.specs.Starts.{IsStart, AreStarts, IsPlanned};
 
 use crate::block::Block;
+use crate::counts::signature_variables;
 use crate::extent::Extent;
 use crate::listing::{put_body, sum};
+use crate::routines::{Routine, Routines};
 use crate::start::Start;
-use atac_base::place::NoMemory;
-use c_routines::counts::signature_variables;
-use c_routines::routines::{Routine, Routines};
+use c_base::place::NoMemory;
 use c_tree::program::Program;
 use std::alloc::Global;
 

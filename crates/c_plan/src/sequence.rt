@@ -1,3 +1,5 @@
+//! Lists of statements, with where they stand in the program.
+
 ghost use Rattle.std.specs.Prelude.{◌≡◌, ◌+◌, ◌≤◌, drop};
 ghost use Rattle.c_syntax.specs.View.{item_list};
 ghost use Rattle.c_meaning.specs.Counts.{items_variables};

@@ -4,5 +4,3 @@
 pub mod laws;
 pub mod names;
 pub mod scopes;
-#[cfg(test)]
-mod tests;

@@ -1,10 +1,12 @@
+//! The names of one scope.
+
 ghost use Rattle.std.specs.Prelude.{◌≡◌, ℕ, List, Vec, [], ◌∷◌, ◌++◌, None, OnOk, OnErr};
 ghost use Rattle.std.specs.Global.{Global};
 ghost use Rattle.std.specs.Map.Iter.{ShowsInOrder, deref_pair};
 ghost use Rattle.c_scopes.specs.Rows.{rows_of};
 ghost use Rattle.c_scopes.specs.Scoping.{named};
 
-use atac_base::place::NoMemory;
+use c_base::place::NoMemory;
 use indexmap::IndexMap;
 use indexmap::map::Iter;
 use std::alloc::Global;

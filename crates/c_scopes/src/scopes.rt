@@ -1,8 +1,10 @@
+//! The scopes that are open.
+
 ghost use Rattle.std.specs.Prelude.{◌≡◌, [], None, OnOk, OnErr};
 ghost use Rattle.c_scopes.specs.Scoping.{find, find_here, find_outer, declared, entered, left, closed, outermost};
 
 use crate::names::Names;
-use atac_base::place::NoMemory;
+use c_base::place::NoMemory;
 use std::alloc::Global;
 use std::marker::Model;
 use std::mem;

@@ -5,8 +5,8 @@ use Rattle.std.proofs.lemmas.Bool.{eqb-true}
 use Rattle.std.proofs.lemmas.Slice.Eq.{bytes_eq-Decides}
 use Rattle.std.proofs.lemmas.Option.{slice_get-map}
 use Rattle.std.specs.List.{list_any, position_or_len}
-use Rattle.c_tree.specs.Tables.{StructShape}
-use Rattle.c_items.specs.Items.{Item}
+use Rattle.c_tables.specs.Tables.{StructShape}
+use Rattle.c_walk.specs.Items.{Item}
 use Rattle.c_sites.specs.Names.{LeafName, all_names}
 use Rattle.c_sites.specs.Numbers.{same_name, with_name, with_names, names_of, number_of}
 use Rattle.c_sites.specs.Spelled.{spelling}

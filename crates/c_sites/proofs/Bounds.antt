@@ -2,8 +2,8 @@
 use Rattle.std.proofs.Common.{◌≡◌, ℕ, zero, suc, ◌+◌, ◌≤◌, ◌<◌, ◌++◌, ◌⊎◌, inl, inr, List, [], ◌∷◌, map, length, get_or, Bool, true, false, not, ◌||◌, cond, sym, ap, ◌∙◌, subst, arith}
 use Rattle.std.proofs.lemmas.List.{length-map}
 use Rattle.std.specs.List.{list_any, position_or_len, Any, Contains, AllByRecursion}
-use Rattle.c_tree.specs.Tables.{StructShape}
-use Rattle.c_items.specs.Items.{Item, block, decision, def, used}
+use Rattle.c_tables.specs.Tables.{StructShape}
+use Rattle.c_walk.specs.Items.{Item, block, decision, def, used}
 use Rattle.c_sites.specs.declared.lists.Lists.{Lists}
 use Rattle.c_sites.specs.declared.lists.DefSite as code_def
 use Rattle.c_sites.specs.declared.lists.UseSite as code_use

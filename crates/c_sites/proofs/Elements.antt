@@ -3,9 +3,9 @@ use Rattle.std.proofs.Common.{◌≡◌, ℕ, zero, suc, ◌+◌, ◌-◌, ◌<�
 use Rattle.std.proofs.Math.Seq.{take-append_seam}
 use Rattle.c_syntax.specs.declared.text.Text.{Text}
 use Rattle.c_syntax.specs.Shape.{TypeOf, int, pointer, array, structure, nothing}
-use Rattle.c_kinds.specs.Kinds.{is_scalar}
-use Rattle.c_tree.specs.Tables.{StructShape, FieldShape}
-use Rattle.c_items.specs.Places.{element_text, field_text}
+use Rattle.c_type_rules.specs.Kinds.{is_scalar}
+use Rattle.c_tables.specs.Tables.{StructShape, FieldShape}
+use Rattle.c_walk.specs.Places.{element_text, field_text}
 use Rattle.c_sites.specs.Names.{field_leaves, type_leaves, leaves}
 use Rattle.c_sites.specs.Elements.{element, elements_text, element_leaves}
 

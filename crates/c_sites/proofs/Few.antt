@@ -2,10 +2,10 @@
 use Rattle.std.proofs.Common.{◌≡◌, ℕ, ◌+◌, ◌≤◌, Bool, true, false, nat_lt, List, [], ◌∷◌, length, map, Option, Some, None, refl, ap, arith, if◌then◌else◌}
 use Rattle.std.proofs.lemmas.Bool.{or_parts}
 use Rattle.std.proofs.lemmas.Bool.Decides.{nat_tests}
-use Rattle.atac_base.specs.declared.place.Pos.{Pos}
-use Rattle.c_tree.specs.Tables.{StructShape}
+use Rattle.c_base.specs.declared.place.Pos.{Pos}
+use Rattle.c_tables.specs.Tables.{StructShape}
 use Rattle.c_sites.specs.declared.limits.Counts.{Counts}
-use Rattle.c_items.specs.Items.{Item, block, decision, def, used}
+use Rattle.c_walk.specs.Items.{Item, block, decision, def, used}
 use Rattle.c_sites.specs.Names.{LeafName}
 use Rattle.c_sites.specs.Kinds.{blocks, decisions, defs, uses}
 use Rattle.c_sites.specs.Limits.{no_counts, with_one, too_many, place_of, excess}

@@ -1,7 +1,7 @@
 -- Lists of items one behind the other.
 use Rattle.std.proofs.Common.{◌≡◌, ◌++◌, List, [], ◌∷◌, length, refl, sym, ap, ◌∙◌, append_assoc, append-nil, arith}
-use Rattle.c_tree.specs.Tables.{StructShape}
-use Rattle.c_items.specs.Items.{Item, block, decision, def, used}
+use Rattle.c_tables.specs.Tables.{StructShape}
+use Rattle.c_walk.specs.Items.{Item, block, decision, def, used}
 use Rattle.c_sites.specs.Names.{LeafName, item_names, all_names}
 use Rattle.c_sites.specs.Numbers.{with_names}
 use Rattle.c_sites.specs.Lists.{Lists, lists_of, added, joined}

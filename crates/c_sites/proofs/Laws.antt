@@ -3,8 +3,8 @@ use Rattle.std.proofs.Common.{◌≡◌, ℕ, zero, suc, ◌<◌, List, [], ◌�
 use Rattle.std.proofs.lemmas.List.Elements.{Contains-append_left, Contains-append_right}
 use Rattle.std.specs.Prelude.{Contains}
 use Rattle.std.specs.List.{list_any}
-use Rattle.c_tree.specs.Tables.{StructShape}
-use Rattle.c_items.specs.Items.{Item}
+use Rattle.c_tables.specs.Tables.{StructShape}
+use Rattle.c_walk.specs.Items.{Item}
 use Rattle.c_sites.specs.Names.{LeafName, item_names, all_names}
 use Rattle.c_sites.specs.Numbers.{same_name, names_of, number_of}
 use Rattle.c_sites.proofs.Apart.{numbers_apart, named}

@@ -1,8 +1,8 @@
 -- The sites of a list of items.
 use Rattle.std.proofs.Common.{◌≡◌, List, map, ap, ◌∙◌}
 use Rattle.std.specs.String.{string_bytes}
-use Rattle.c_tree.specs.Tables.{StructShape}
-use Rattle.c_items.specs.Items.{Item}
+use Rattle.c_tables.specs.Tables.{StructShape}
+use Rattle.c_walk.specs.Items.{Item}
 use Rattle.c_sites.specs.declared.numbered.Sites.{Sites}
 use Rattle.c_sites.specs.Names.{LeafName}
 use Rattle.c_sites.specs.Numbers.{names_of}

@@ -3,9 +3,9 @@ use Rattle.std.proofs.Common.{◌≡◌, ℕ, zero, suc, ◌+◌, ◌≤◌, Lis
 use Rattle.std.proofs.lemmas.List.{length-map}
 use Rattle.std.specs.Prelude.{All, IsSome}
 use Rattle.std.specs.List.{AllByRecursion, position_or_len}
-use Rattle.c_tree.specs.Tables.{StructShape}
-use Rattle.c_items.specs.Items.{Direct, Item, block, decision, def, used}
-use Rattle.c_items.specs.Sound.{decision_count, IsOwner, HasScalar, IsSound, AreSound}
+use Rattle.c_tables.specs.Tables.{StructShape}
+use Rattle.c_walk.specs.Items.{Direct, Item, block, decision, def, used}
+use Rattle.c_walk.specs.Sound.{decision_count, IsOwner, HasScalar, IsSound, AreSound}
 use Rattle.c_sites.specs.declared.lists.Lists.{Lists}
 use Rattle.c_sites.specs.Names.{LeafName, leaf_name, site_leaves}
 use Rattle.c_sites.specs.Numbers.{same_name, number_of, site_numbers, first_number}

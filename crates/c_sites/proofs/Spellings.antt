@@ -4,9 +4,9 @@ use Rattle.std.proofs.Math.Seq.{take-suc}
 use Rattle.std.proofs.lemmas.List.{map-append}
 use Rattle.c_syntax.specs.declared.text.Text.{Text}
 use Rattle.c_syntax.specs.Shape.{TypeOf}
-use Rattle.c_tree.specs.declared.tables.FieldRow.{FieldRow}
-use Rattle.c_tree.specs.Tables.{StructShape, FieldShape, field_shape}
-use Rattle.c_items.specs.Places.{field_text}
+use Rattle.c_tables.specs.declared.tables.FieldRow.{FieldRow}
+use Rattle.c_tables.specs.Tables.{StructShape, FieldShape, field_shape}
+use Rattle.c_walk.specs.Places.{field_text}
 use Rattle.c_sites.specs.declared.naming.Spelling.{Spelling}
 use Rattle.c_sites.specs.Names.{LeafName, leaf_name, field_leaves, leaves}
 use Rattle.c_sites.specs.Elements.{element, elements_text, element_leaves}

@@ -1,11 +1,11 @@
 -- Worked leaf names and their numbers.
 use Rattle.std.proofs.Common.{◌≡◌, ℕ, List, [], ◌∷◌, Option, Some, None, refl}
-use Rattle.atac_base.specs.declared.place.Pos.{Pos}
-use Rattle.atac_base.specs.declared.place.IntKind.TheVariants.{Int}
+use Rattle.c_base.specs.declared.place.Pos.{Pos}
+use Rattle.c_base.specs.declared.place.IntKind.TheVariants.{Int}
 use Rattle.c_syntax.specs.declared.text.Text.{Text}
 use Rattle.c_syntax.specs.Shape.{int, array, structure}
-use Rattle.c_tree.specs.Tables.{StructShape}
-use Rattle.c_items.specs.Items.{Direct, both, Item, block, decision, def, used}
+use Rattle.c_tables.specs.Tables.{StructShape}
+use Rattle.c_walk.specs.Items.{Direct, both, Item, block, decision, def, used}
 use Rattle.c_sites.specs.Names.{leaf_name, site_leaves}
 use Rattle.c_sites.specs.Numbers.{names_of}
 use Rattle.c_sites.specs.Kinds.{defs, uses}
@@ -50,5 +50,5 @@ numbers_of_definitions : defs (names_of structures items) structures items
 numbers_of_definitions = refl
 
 numbers_of_uses : uses (names_of structures items) structures items
-    ≡ record { pos = at 3; function = 1; variable = Some 2; name = 1; owner = Some 1 } ∷ record { pos = at 4; function = 1; variable = None; name = 0; owner = None } ∷ []
+    ≡ record { pos = at 3; function = 1; variable = Some 2; name = 1; names = 1 ∷ []; owner = Some 1 } ∷ record { pos = at 4; function = 1; variable = None; name = 0; names = []; owner = None } ∷ []
 numbers_of_uses = refl

@@ -1,8 +1,8 @@
 -- What is done where one more item comes.
 use Rattle.std.specs.Prelude.{◌≡◌, ℕ, ◌++◌, List, Option}
-use Rattle.atac_base.specs.declared.place.Pos.{Pos}
-use Rattle.c_tree.specs.Tables.{StructShape}
-use Rattle.c_items.specs.Items.{Direct, Item}
+use Rattle.c_base.specs.declared.place.Pos.{Pos}
+use Rattle.c_tables.specs.Tables.{StructShape}
+use Rattle.c_walk.specs.Items.{Direct, Item}
 use Rattle.c_sites.specs.Names.{LeafName, site_names, item_names}
 use Rattle.c_sites.specs.Numbers.{with_names}
 use Rattle.c_sites.specs.Kinds.{DefSite, def_site, UseSite, use_site}

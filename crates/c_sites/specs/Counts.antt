@@ -1,8 +1,8 @@
 -- How many leaf names a place has.
 use Rattle.std.specs.Prelude.{ℕ, zero, suc, ◌+◌, List, [], ◌∷◌}
 use Rattle.c_syntax.specs.Shape.{TypeOf, int, pointer, structure}
-use Rattle.c_tree.specs.Tables.{StructShape, FieldShape}
-use Rattle.c_tree.specs.State.{row, fields_in}
+use Rattle.c_tables.specs.Tables.{StructShape, FieldShape}
+use Rattle.c_tables.specs.Rows.{row, fields_in}
 use Rattle.c_sites.specs.Elements.{element}
 
 abbrev pub field_counts : (TypeOf → ℕ) → List FieldShape → ℕ

@@ -2,9 +2,9 @@
 use Rattle.std.specs.Prelude.{◌++◌, List, [], ◌∷◌}
 use Rattle.c_syntax.specs.declared.text.Text.{Text}
 use Rattle.c_syntax.specs.Shape.{TypeOf, int, pointer, array, structure}
-use Rattle.c_tree.specs.Tables.{StructShape}
-use Rattle.c_tree.specs.State.{row, fields_in}
-use Rattle.c_items.specs.Places.{element_text}
+use Rattle.c_tables.specs.Tables.{StructShape}
+use Rattle.c_tables.specs.Rows.{row, fields_in}
+use Rattle.c_walk.specs.Places.{element_text}
 use Rattle.c_sites.specs.Names.{field_leaves}
 
 -- what its elements are, where it is an array, one in another

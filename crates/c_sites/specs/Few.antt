@@ -1,6 +1,6 @@
 -- At most 16,383 items of each kind, so that 16 bits hold an owner's number.
 use Rattle.std.specs.Prelude.{ℕ, ◌≤◌, length, Option, Some, None}
-use Rattle.c_items.specs.Items.{Item, block, decision, def, used}
+use Rattle.c_walk.specs.Items.{Item, block, decision, def, used}
 use Rattle.c_sites.specs.declared.lists.Lists.{Lists}
 
 pub record AreFew (l : Lists) : Type 0 where

@@ -1,8 +1,8 @@
 -- The numbers of leaf names, and their texts.
 use Rattle.std.specs.Prelude.{◌≡◌, ℕ, ◌-◌, ◌≤◌, ◌⊎◌, List, length, slice_get, Some, Contains}
 use Rattle.std.specs.List.{Any}
-use Rattle.c_tree.specs.Tables.{StructShape}
-use Rattle.c_items.specs.Items.{Item}
+use Rattle.c_tables.specs.Tables.{StructShape}
+use Rattle.c_walk.specs.Items.{Item}
 use Rattle.c_sites.specs.declared.lists.Lists.{Lists}
 use Rattle.c_sites.specs.Names.{LeafName, all_names}
 use Rattle.c_sites.specs.Numbers.{names_of, number_of}

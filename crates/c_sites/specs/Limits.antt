@@ -1,9 +1,9 @@
 -- How many items there may be.
 use Rattle.std.specs.Prelude.{ℕ, ◌+◌, ◌-◌, ◌^◌, ◌||◌, min, List, [], ◌∷◌, length, nat_lt, Bool, Option, Some, None, if◌then◌else◌}
-use Rattle.atac_base.specs.declared.place.Pos.{Pos}
-use Rattle.c_tree.specs.Tables.{StructShape}
+use Rattle.c_base.specs.declared.place.Pos.{Pos}
+use Rattle.c_tables.specs.Tables.{StructShape}
 use Rattle.c_sites.specs.declared.limits.Counts.{Counts}
-use Rattle.c_items.specs.Items.{Direct, Item, block, decision, def, used}
+use Rattle.c_walk.specs.Items.{Direct, Item, block, decision, def, used}
 use Rattle.c_sites.specs.Names.{site_leaves}
 
 abbrev pub no_counts : Counts

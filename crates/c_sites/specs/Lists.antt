@@ -1,8 +1,8 @@
 -- The four kinds of items, each in a list of its own, where these are the different leaf names.
 use Rattle.std.specs.Prelude.{◌++◌, List, [], ◌∷◌}
-use Rattle.atac_base.specs.declared.place.Pos.{Pos}
-use Rattle.c_tree.specs.Tables.{StructShape}
-use Rattle.c_items.specs.Items.{labels, Item, block, decision, def, used}
+use Rattle.c_base.specs.declared.place.Pos.{Pos}
+use Rattle.c_tables.specs.Tables.{StructShape}
+use Rattle.c_walk.specs.Items.{labels, Item, block, decision, def, used}
 use Rattle.c_sites.specs.Names.{LeafName}
 use Rattle.c_sites.specs.Kinds.{Decision, DefSite, def_site, UseSite, use_site, blocks, decisions, defs, uses}
 

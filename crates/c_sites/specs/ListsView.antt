@@ -14,7 +14,7 @@ abbrev pub def_shape : code_def.DefSite → DefSite
 def_shape d = record { pos = d.pos; function = d.function; variable = d.variable; names = d.names }
 
 abbrev pub use_shape : code_use.UseSite → UseSite
-use_shape u = record { pos = u.pos; function = u.function; variable = u.variable; name = u.name; owner = u.owner }
+use_shape u = record { pos = u.pos; function = u.function; variable = u.variable; name = u.name; names = u.names; owner = u.owner }
 
 abbrev pub lists_shape : code_lists.Lists → Lists
 lists_shape l = record {

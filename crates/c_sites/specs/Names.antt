@@ -2,10 +2,10 @@
 use Rattle.std.specs.Prelude.{ℕ, zero, suc, ◌+◌, ◌++◌, List, [], ◌∷◌, map, length, Option, Some, None}
 use Rattle.c_syntax.specs.declared.text.Text.{Text}
 use Rattle.c_syntax.specs.Shape.{TypeOf, int, pointer, array, structure, nothing}
-use Rattle.c_tree.specs.Tables.{StructShape, FieldShape}
-use Rattle.c_tree.specs.State.{row, fields_in}
-use Rattle.c_items.specs.Items.{Direct, Item, block, decision, def, used}
-use Rattle.c_items.specs.Places.{element_text, field_text}
+use Rattle.c_tables.specs.Tables.{StructShape, FieldShape}
+use Rattle.c_tables.specs.Rows.{row, fields_in}
+use Rattle.c_walk.specs.Items.{Direct, Item, block, decision, def, used}
+use Rattle.c_walk.specs.Places.{element_text, field_text}
 
 -- of each field of a place with that name, where these are the leaf names of what has that name and type
 abbrev pub field_leaves : (Text → TypeOf → List Text) → Text → List FieldShape → List Text

@@ -1,8 +1,8 @@
 -- The numbers of leaf names: the different ones in the order of their first sites, counted from 1.
 use Rattle.std.specs.Prelude.{ℕ, ◌+◌, ◌++◌, ◌&&◌, List, [], ◌∷◌, map, nat_eq, bytes_eq, Bool, Option, if◌then◌else◌}
 use Rattle.std.specs.List.{list_any, position_or_len}
-use Rattle.c_tree.specs.Tables.{StructShape}
-use Rattle.c_items.specs.Items.{Direct, Item}
+use Rattle.c_tables.specs.Tables.{StructShape}
+use Rattle.c_walk.specs.Items.{Direct, Item}
 use Rattle.c_sites.specs.Names.{LeafName, site_names, all_names}
 
 -- the same variable and the same text

@@ -1,23 +1,23 @@
 -- What a program has, or why it is refused.
 use Rattle.std.specs.Prelude.{◌≡◌, ℕ, ◌≤◌, List, map, length, All, Option, Some, None, IsSome}
 use Rattle.std.specs.String.{string_bytes}
-use Rattle.atac_base.specs.declared.place.Pos.{Pos}
+use Rattle.c_base.specs.declared.place.Pos.{Pos}
 use Rattle.c_syntax.specs.Shape.{UnitShape}
 use Rattle.c_syntax.specs.View.{unit_shape}
-use Rattle.c_tree.specs.Tables.{TablesShape, StructShape, tables_shape}
+use Rattle.c_tables.specs.Tables.{TablesShape, StructShape, tables_shape}
 use Rattle.c_tree.specs.declared.program.Program.{Program}
 use Rattle.c_sites.specs.declared.numbered.Sites.{Sites}
 use Rattle.c_sites.specs.declared.lists.UseSite.{UseSite}
-use Rattle.c_sites.specs.declared.sites.SiteRefusal.{SiteRefusal}
-use Rattle.c_sites.specs.declared.sites.SiteRefusal.TheVariants.{At, NoMemory}
+use Rattle.c_sites.specs.declared.all_sites.SiteRefusal.{SiteRefusal}
+use Rattle.c_sites.specs.declared.all_sites.SiteRefusal.TheVariants.{At, NoMemory}
 use Rattle.c_sites.specs.Lists.{lists_of}
 use Rattle.c_sites.specs.ListsView.{lists_shape}
-use Rattle.c_items.specs.Items.{Item}
-use Rattle.c_items.specs.Sound.{IsOwner}
-use Rattle.c_items.specs.Units.{items_of}
+use Rattle.c_walk.specs.Items.{Item}
+use Rattle.c_walk.specs.Sound.{IsOwner}
+use Rattle.c_walk.specs.Units.{items_of}
 use Rattle.c_sites.specs.Numbers.{names_of}
 use Rattle.c_sites.specs.Leaf.{AreApart, AreSpelled}
-use Rattle.c_marks.specs.Marked.{unit_mark}
+use Rattle.c_sites_probes.specs.Marked.{unit_mark}
 use Rattle.c_sites.specs.Limits.{no_counts, excess}
 
 abbrev pub at_excess : Option Pos → Option (ℕ × Pos)

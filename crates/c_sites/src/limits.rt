@@ -2,18 +2,18 @@
 
 ghost use Rattle.std.specs.Prelude.{◌≡◌, length, map};
 ghost use Rattle.c_syntax.specs.View.{type_of};
-ghost use Rattle.c_tree.specs.State.{row, fields_in};
-ghost use Rattle.c_tree.specs.Tables.{tables_shape, field_shape};
-ghost use Rattle.c_items.specs.ItemView.{item_shape, place_shape};
+ghost use Rattle.c_tables.specs.Rows.{row, fields_in};
+ghost use Rattle.c_tables.specs.Tables.{tables_shape, field_shape};
+ghost use Rattle.c_walk.specs.ItemView.{item_shape, place_shape};
 ghost use Rattle.c_sites.specs.Names.{site_leaves};
 ghost use Rattle.c_sites.specs.Elements.{element};
 ghost use Rattle.c_sites.specs.Counts.{field_counts, leaf_count};
 ghost use Rattle.c_sites.specs.Limits.{no_counts, kept, with_names, with_one, too_many, place_of, excess};
 
-use atac_base::place::Pos;
-use c_items::items::{Direct, Item};
+use c_base::place::Pos;
 use c_syntax::tree::CType;
-use c_tree::tables::{FieldRow, Tables};
+use c_tables::tables::{FieldRow, Tables};
+use c_walk::items::{Direct, Item};
 
 /// How many blocks, decisions, definitions and uses there are, and leaf names of sites, each site's counted by itself.
 #[derive(Clone, Copy, Debug, PartialEq, Eq)]

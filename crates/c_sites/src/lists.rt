@@ -2,8 +2,8 @@
 
 ghost use Rattle.std.specs.Prelude.{◌≡◌, [], ◌∷◌, ◌++◌, map, option_map, OnOk, IfOk};
 ghost use Rattle.std.specs.List.{AllByRecursion};
-ghost use Rattle.c_tree.specs.Tables.{tables_shape};
-ghost use Rattle.c_items.specs.ItemView.{item_shape, place_shape};
+ghost use Rattle.c_tables.specs.Tables.{tables_shape};
+ghost use Rattle.c_walk.specs.ItemView.{item_shape, place_shape};
 ghost use Rattle.c_sites.specs.Added.{IsAdded, IsDef, IsUse};
 ghost use Rattle.c_sites.specs.Few.{IsShort, HasShortOwner};
 ghost use Rattle.c_sites.specs.Kinds.{variable_of};
@@ -13,12 +13,12 @@ ghost use Rattle.c_sites.specs.Numbers.{names_of, first_number};
 
 use crate::names::Names;
 use crate::naming::site_numbers;
-use crate::numbers::NameList;
-use atac_base::place::{NoMemory, Pos};
-use c_items::items::{Direct, Item};
-use c_items::labels::Labels;
-use c_items::outcomes::labels_of;
-use c_tree::tables::Tables;
+use c_base::labels::Labels;
+use c_base::numbers::NumberList;
+use c_base::place::{NoMemory, Pos};
+use c_tables::tables::Tables;
+use c_walk::items::{Direct, Item};
+use c_walk::outcomes::labels_of;
 use std::alloc::Global;
 
 /// A decision: the place of its expression's first token, and its outcomes.
@@ -35,17 +35,19 @@ pub struct DefSite {
     pub pos: Pos,
     pub function: u32,
     pub variable: Option<u32>,
-    pub names: NameList,
+    pub names: NumberList,
 }
 
-/// A use: its place, its function, its variable, if it is direct, and the number of its leaf name, which is 0 for an indirect
-/// one; and the number of the decision whose expression holds it, the innermost one, if there is one.
-#[derive(Clone, Copy, Debug, PartialEq, Eq)]
+/// A use: its place, its function, its variable, if it is direct, and the numbers of its leaf names, the first of which is its
+/// name; an indirect one has none, and its name is 0. And the number of the decision whose expression holds it, the innermost
+/// one, if there is one.
+#[derive(Drop)]
 pub struct UseSite {
     pub pos: Pos,
     pub function: u32,
     pub variable: Option<u32>,
     pub name: u32,
+    pub names: NumberList,
     pub owner: Option<u16>,
 }
 
@@ -158,6 +160,7 @@ fn use_site(
         function,
         variable,
         name,
+        names: numbers,
         owner: None,
     })
 }
@@ -173,7 +176,7 @@ fn owner_number(owner: Option<u32>) -> Option<u16>
     }
 }
 
-fn first_number(numbers: &NameList) -> u32
+fn first_number(numbers: &NumberList) -> u32
     ensures { result ≡ first_number numbers.now }
 {
     if numbers.len() == 0 {

@@ -7,7 +7,7 @@ ghost use Rattle.c_sites.specs.Names.{leaf_name};
 ghost use Rattle.c_sites.specs.Numbers.{with_name};
 ghost use Rattle.c_sites.specs.Spelled.{IsNumber, spelling};
 
-use atac_base::place::NoMemory;
+use c_base::place::NoMemory;
 use indexmap::IndexSet;
 use std::alloc::Global;
 use std::marker::Model;

@@ -2,10 +2,10 @@
 
 ghost use Rattle.std.specs.Prelude.{◌≡◌, ◌-◌, [], ◌∷◌, ◌++◌, map, OnOk, IfOk};
 ghost use Rattle.c_syntax.specs.View.{type_of};
-ghost use Rattle.c_tree.specs.State.{row, fields_in};
-ghost use Rattle.c_tree.specs.Tables.{tables_shape, field_shape};
-ghost use Rattle.c_items.specs.ItemView.{direct_shape, place_shape};
-ghost use Rattle.c_items.specs.Places.{field_text};
+ghost use Rattle.c_tables.specs.Rows.{row, fields_in};
+ghost use Rattle.c_tables.specs.Tables.{tables_shape, field_shape};
+ghost use Rattle.c_walk.specs.ItemView.{direct_shape, place_shape};
+ghost use Rattle.c_walk.specs.Places.{field_text};
 ghost use Rattle.c_sites.specs.Names.{leaves, field_leaves, leaf_name, site_names};
 ghost use Rattle.c_sites.specs.Elements.{elements_text, element_leaves};
 ghost use Rattle.c_sites.specs.Spelled.{AreNamed};
@@ -13,13 +13,13 @@ ghost use Rattle.c_sites.specs.SpellingView.{IsNamed};
 
 use crate::limits::element;
 use crate::names::Names;
-use crate::numbers::NameList;
-use atac_base::place::NoMemory;
-use c_items::items::Direct;
-use c_items::places::bytes;
-use c_kinds::kinds::is_scalar;
+use c_base::numbers::NumberList;
+use c_base::place::NoMemory;
 use c_syntax::tree::CType;
-use c_tree::tables::{FieldRow, Tables};
+use c_tables::tables::{FieldRow, Tables};
+use c_type_rules::kinds::is_scalar;
+use c_walk::items::Direct;
+use c_walk::places::bytes;
 use std::alloc::Global;
 
 /// A site whose leaf names are gone through: its variable, the text of the part that is reached, and the numbers so far.
@@ -28,7 +28,7 @@ pub struct Spelling {
     alloc: Global,
     variable: u32,
     text: Vec<u8>,
-    numbers: NameList,
+    numbers: NumberList,
 }
 
 impl Spelling {
@@ -180,11 +180,11 @@ pub fn site_numbers(
     names: &mut Names,
     tables: &Tables,
     place: Option<Direct>,
-) -> Result<NameList, NoMemory>
+) -> Result<NumberList, NoMemory>
     ensures { IfOk result (AreNamed names.old names.new (site_names (tables_shape tables.now).structures (place_shape place)) []) }
 {
     match place {
-        None => Ok(NameList::new(alloc)),
+        None => Ok(NumberList::new(alloc)),
         Some(place) => place_numbers(alloc, names, tables, place),
     }
 }
@@ -194,7 +194,7 @@ fn place_numbers(
     names: &mut Names,
     tables: &Tables,
     place: Direct,
-) -> Result<NameList, NoMemory>
+) -> Result<NumberList, NoMemory>
     ensures { IfOk result (AreNamed names.old names.new (site_names (tables_shape tables.now).structures (Some (direct_shape place))) []) }
 {
     if is_scalar(&place.kind) {
@@ -204,7 +204,7 @@ fn place_numbers(
         alloc,
         variable: place.variable,
         text: place.name,
-        numbers: NameList::new(alloc),
+        numbers: NumberList::new(alloc),
     };
     let depth = u64::from(tables.structures()) + 1;
     put_leaves(names, &mut site, tables, depth, &place.kind)?;
@@ -217,11 +217,11 @@ fn scalar_numbers(
     names: &mut Names,
     variable: u32,
     text: Vec<u8>,
-) -> Result<NameList, NoMemory>
+) -> Result<NumberList, NoMemory>
     ensures { IfOk result (AreNamed names.old names.new (leaf_name variable text.items ∷ []) []) }
 {
     let number = names.number(variable, text)?;
-    let mut numbers = NameList::new(alloc);
+    let mut numbers = NumberList::new(alloc);
     numbers.push(number)?;
     Ok(numbers)
 }

@@ -6,7 +6,7 @@ ghost use Rattle.c_sites.specs.Few.{AreFew};
 ghost use Rattle.c_sites.specs.Leaf.{IsLeaf, HaveTexts};
 
 use crate::lists::{Decision, DefSite, Lists, UseSite};
-use atac_base::place::Pos;
+use c_base::place::Pos;
 
 /// The blocks, decisions, definitions and uses of a program: at most 16,383 of each, numbered from 1 in the order of the
 /// tree, and the texts of the leaf names of their sites, numbered from 1 in the order of the sites.
@@ -87,6 +87,13 @@ impl Sites {
         ensures { slice_get self.now.lists.uses.items (u - 1) ≡ Some result.now }
     {
         &self.lists.uses[u as usize - 1]
+    }
+
+    /// The texts of the leaf names, in the order of their numbers.
+    pub fn texts(&self) -> &[String]
+        ensures { result.now ≡ self.now.texts.items }
+    {
+        self.texts.as_slice()
     }
 
     /// The text of the leaf name with that number, which some direct site has: the variable's name with each field as `.f`

@@ -1,3 +1,5 @@
+//! One instance and its cells.
+
 ghost use Rattle.std.specs.Prelude.{◌≡◌, ◌<◌, length, slice_set, Some};
 ghost use Rattle.c_store.specs.Held.{cells_in};
 

@@ -1,3 +1,5 @@
+//! The live instances, read, written, made and ended.
+
 ghost use Rattle.std.specs.Prelude.{◌≡◌, suc, length, take, drop, ◌++◌, slice_index_or, ◌+◌, ◌*◌, ◌<◌, ◌^◌, map, ℕ, IfOk, Some, OnOk, replicate, None};
 ghost use Rattle.c_store.specs.Held.{cells_in};
 ghost use Rattle.c_store.specs.Cells.{slot_of, cell_of, is_inside, is_same, is_one_array, literal_cells, signed_char, IsPlace, Ascending, Slot, element_in, read_in};

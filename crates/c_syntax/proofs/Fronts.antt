@@ -1,7 +1,7 @@
 -- A probe is its front, its expression and its closing parenthesis.
 use Rattle.std.proofs.Common.{◌≡◌, refl, [], ◌∷◌, ◌++◌, arith}
 use Rattle.std.proofs.lemmas.Grind.{common_steps}
-use Rattle.atac_base.specs.declared.place.Pos.{Pos}
+use Rattle.c_base.specs.declared.place.Pos.{Pos}
 use Rattle.c_syntax.specs.declared.token.TokenKind.TheVariants as kind
 use Rattle.c_syntax.specs.declared.token.Mark.TheVariants as m
 use Rattle.c_syntax.specs.Forms.{Form, kinds}

@@ -1,8 +1,8 @@
 -- The shapes of trees: the same variants, numbers, bytes, places and lists, wherever the parts lie in memory. Every definition speaks of
 -- shapes. What is written alike is one form here: the operators between two operands, those in front of one, what stands behind one.
 use Rattle.std.specs.Prelude.{ℕ, ℤ, Bool, List, Option}
-use Rattle.atac_base.specs.declared.place.Pos.{Pos}
-use Rattle.atac_base.specs.declared.place.IntKind.{IntKind}
+use Rattle.c_base.specs.declared.place.Pos.{Pos}
+use Rattle.c_base.specs.declared.place.IntKind.{IntKind}
 use Rattle.c_syntax.specs.declared.text.Text.{Text}
 use Rattle.c_syntax.specs.declared.token.Key.{Key}
 use Rattle.c_syntax.specs.declared.tree.UnaryOp.{UnaryOp}

@@ -1,6 +1,6 @@
 -- Tokens that stand in no text.
 use Rattle.std.specs.Prelude.{◌≡◌, List, All}
-use Rattle.atac_base.specs.declared.place.Pos.{Pos}
+use Rattle.c_base.specs.declared.place.Pos.{Pos}
 use Rattle.c_syntax.specs.declared.token.TokenKind.{TokenKind}
 use Rattle.c_syntax.specs.declared.token.Token.{Token}
 

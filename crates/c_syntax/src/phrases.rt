@@ -20,7 +20,7 @@ use crate::words::{
     assign_mark_of, mark_of, put_comma, put_maybe_named, put_named, put_stars, unary_mark_of,
 };
 use crate::writer::Writer;
-use atac_base::place::NoMemory;
+use c_base::place::NoMemory;
 
 /// Writes an expression (C89, 3.3).
 #[cycle(phrase)]

@@ -13,7 +13,7 @@ use crate::token::{Key, Mark, Token};
 use crate::tree::{Compound, External, Item, Label, Node, Stmt, StmtForm, Unit};
 use crate::words::{put_line, put_marks};
 use crate::writer::Writer;
-use atac_base::place::NoMemory;
+use c_base::place::NoMemory;
 use std::alloc::Global;
 
 fn put_maybe(out: &mut Writer, node: &Option<Node>) -> Result<(), NoMemory>

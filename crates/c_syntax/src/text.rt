@@ -1,6 +1,8 @@
-ghost use Rattle.std.specs.Prelude.{◌≡◌, ℕ, ◌+◌, ◌<◌, ◌≤◌, List, [], ◌∷◌, ◌++◌, length, slice_index, OnOk, IfOk};
+//! Lists of bytes.
 
-use atac_base::place::NoMemory;
+ghost use Rattle.std.specs.Prelude.{◌≡◌, ℕ, ◌+◌, ◌<◌, ◌≤◌, List, [], ◌∷◌, ◌++◌, length, slice_index, OnOk, OnErr, IfOk};
+
+use c_base::place::NoMemory;
 use std::alloc::Global;
 use std::marker::Model;
 
@@ -42,12 +44,11 @@ impl Text {
     /// Appends one byte.
     pub fn push(&mut self, item: u8) -> Result<(), NoMemory>
         requires { length self.old < 4294967295 }
-        ensures { OnOk result (self.new ≡ self.old ++ item ∷ []) }
+        ensures ok { OnOk result (self.new ≡ self.old ++ item ∷ []) }
+        ensures err { OnErr result (self.new ≡ self.old) }
     {
-        match self.bytes.push(item) {
-            Ok(()) => Ok(()),
-            Err(_) => Err(NoMemory),
-        }
+        self.bytes.push(item)?;
+        Ok(())
     }
 
     /// A copy of this list.

@@ -1,5 +1,7 @@
+//! Tokens (C89, 3.1).
+
 use crate::text::Text;
-use atac_base::place::Pos;
+use c_base::place::Pos;
 
 /// The marks: operators and punctuators (C89, 3.1.5 and 3.1.6).
 #[derive(Clone, Copy, Debug, PartialEq, Eq)]

@@ -1,6 +1,8 @@
+//! Syntax trees.
+
 use crate::text::Text;
 use crate::token::Key;
-use atac_base::place::{IntKind, Pos};
+use c_base::place::{IntKind, Pos};
 
 /// A type (C89, 3.1.2.5): an array with its length, a structure by its number.
 #[derive(Drop)]

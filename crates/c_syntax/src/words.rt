@@ -7,7 +7,7 @@ ghost use Rattle.c_syntax.specs.Grammar.{binary_mark, assign_mark, unary_mark, c
 use crate::token::{Key, Mark, ProbeWord};
 use crate::tree::{BinaryOp, Named, ProbeMark, ProgramLine, Star, UnaryOp};
 use crate::writer::Writer;
-use atac_base::place::NoMemory;
+use c_base::place::NoMemory;
 
 /// The mark of an operator between two operands (C89, 3.3.5 to 3.3.12).
 pub fn mark_of(op: BinaryOp) -> Mark

@@ -4,7 +4,7 @@ ghost use Rattle.std.specs.Prelude.{◌≡◌, List, [], ◌∷◌, ◌++◌, ma
 
 use crate::text::Text;
 use crate::token::{Key, Mark, ProbeWord, Token, TokenKind};
-use atac_base::place::{NoMemory, Pos};
+use c_base::place::{NoMemory, Pos};
 use std::alloc::Global;
 use std::marker::Model;
 

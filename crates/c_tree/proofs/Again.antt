@@ -1,19 +1,20 @@
 -- Typing reads no note, and leaves all else of a tree as it is: so a tree that was typed can be typed again, from whatever is known then,
 -- and comes out as the tree itself would.
 use Rattle.std.proofs.Common.{◌≡◌, ℕ, ℤ, pos, List, [], ◌∷◌, ◌++◌, Option, Some, None, Bool, true, false, refl, sym, ap, ◌∙◌, map}
-use Rattle.atac_base.specs.declared.place.Pos.{Pos}
+use Rattle.c_base.specs.declared.place.Pos.{Pos}
 use Rattle.c_syntax.specs.declared.tree.Named.{Named}
 use Rattle.c_syntax.specs.declared.tree.Star.{Star}
 use Rattle.c_syntax.specs.Shape.{TypeOf, int, test, Leaf, number, char, str, name, Prefix, unary, before, size_of, Infix, NodeShape, node, ExprShape, leaf, paren, call, prefix, size_of_type, cast, suffix, two, choose, probe, SuffixShape, index, field, behind, ProbeShape, simple, select, NodeShapes, no_nodes, more_nodes, MaybeNode, no_node, one_node, LengthShapes, no_lengths, more_lengths, TypeShape, type_name, SpecShapes, no_specs, more_specs, SpecShape, word, struct, enum, MaybeDecls, no_members, members, MaybeEnumers, no_rows, rows, EnumerShapes, no_enumers, more_enumers, DeclShape, decl, DeclShapes, no_decls, more_decls, DeclaratorShape, declarator, DeclaratorShapes, no_declarators, more_declarators, DeclFormShape, arrays, function, ParamsShape, MaybeInit}
-use Rattle.c_values.specs.Constants as constants
-use Rattle.c_tree.specs.Tables.{FieldShape}
+use Rattle.c_constants.specs.Constants as constants
+use Rattle.c_tables.specs.Tables.{FieldShape}
 use Rattle.c_tree.specs.State.{State, step, steps, complain, demand, is_clean}
 use Rattle.c_tree.specs.Rulings.{rule, kind_at}
 use Rattle.c_tree.specs.Sorts.{Formed, formed, TypedNode, TypedType, noted, pos_in}
 use Rattle.c_tree.specs.Operators.{Given, given_at, claim, called, typed_call, typed_cast, typed_index, typed_infix, typed_choice, typed_select}
-use Rattle.c_tree.specs.Parts.{Length, length_of, left_out, judged_length, TypedLengths, one_length, open_length, judged_constant, TypedCases, one_case, TypedNodes, one_more, Spelled, unspelled, spelled_rule, with_tagged, more_spec, TypedSpecs, TypedSpec, TypedDecls, TypedNames, star_tokens, pointed, arrays_of, is_free, text_of, with_field, field_state, name_pos, entity_of, declare, after, TypedRows, Valued, given_value, tag_tokens, enumeration, kind_if, opened, begun_at, within, outside, closed, structure_kind}
+use Rattle.c_tree.specs.Parts.{Length, length_of, left_out, judged_length, TypedLengths, one_length, open_length, judged_constant, TypedCases, one_case, TypedNodes, one_more, Spelled, unspelled, spelled_rule, with_tagged, more_spec, TypedSpecs, TypedSpec, TypedDecls, TypedNames, star_tokens, pointed, arrays_of, is_free, with_field, field_state, entity_of, declare, after, TypedRows, Valued, given_value, tag_tokens, enumeration, kind_if, opened, begun_at, within, outside, closed, structure_kind}
+use Rattle.c_tables.specs.Rows.{text_of, name_pos}
 use Rattle.c_tree.specs.State.{field_type}
-use Rattle.c_tree.specs.Typing.{type_node, type_form, type_arguments, type_cases, type_type, type_lengths, type_specs, type_struct, type_lines, type_fields, type_enum, type_rows, type_value, opening}
+use Rattle.c_tree.specs.Typing.{type_node, type_form, type_arguments, type_cases, type_type, type_lengths, type_specs, type_struct, type_lines, type_fields, type_enum, rows_types, type_value, opening}
 
 -- two steps, the second of which goes on from what the first one found
 pub chain : {A B C : Type 0} (k : A → B → C) (f g : A → B) (x y : A) → x ≡ y → ((z : A) → f z ≡ g z) → k x (f x) ≡ k y (g y)
@@ -36,7 +37,7 @@ chosen o t v w = formed (choose t.node v.node w.node) (typed_choice t.state.at o
 struct_with : (alone : Bool) (t : Option Named) (x y : DeclShapes) (u : State) → ((v : State) → type_lines x [] v ≡ type_lines y [] v) → type_struct alone t (members x) u ≡ type_struct alone t (members y) u
 struct_with alone t x y u h = rw (h _) refl
 
-enum_with : (t : Option Named) (x y : EnumerShapes) (u : State) → ((v : State) → type_rows (Some (pos 0)) x v ≡ type_rows (Some (pos 0)) y v) → type_enum t (rows x) u ≡ type_enum t (rows y) u
+enum_with : (t : Option Named) (x y : EnumerShapes) (u : State) → ((v : State) → rows_types (Some (pos 0)) x v ≡ rows_types (Some (pos 0)) y v) → type_enum t (rows x) u ≡ type_enum t (rows y) u
 enum_with t x y u h = rw (h _) refl
 
 -- a line of a member list, by its specifiers, its fields and the lines behind it
@@ -86,7 +87,7 @@ mutual
   form_again p o (probe (select x cs) a) s u =
       let w = step (type_cases [] cs (steps 3 (claim test x s.at p s))).state in
       let y = (type_node a w).node in
-      chain (λ t v. formed (probe (select x t.nodes) v.node) (typed_select u.at p t.values v.sort v.state)) (λ t. type_node y (step t.state)) (λ t. type_node a (step t.state)) _ _ (cases_again [] [] cs _ _) (λ t. node_again a w (step t.state))
+      chain (λ t v. formed (probe (select x t.nodes) v.node) (typed_select u.at p (is_clean (steps 3 (claim test x u.at p u)) v.state) t.values v.sort v.state)) (λ t. type_node y (step t.state)) (λ t. type_node a (step t.state)) _ _ (cases_again [] [] cs _ _) (λ t. node_again a w (step t.state))
 
   pub arguments_again : (gs hs : List Given) (args : NodeShapes) (s u : State) → type_arguments hs (type_arguments gs args s).nodes u ≡ type_arguments hs args u
   arguments_again gs hs no_nodes s u = refl
@@ -136,7 +137,7 @@ mutual
       let w = type_enum t (rows es) (step s) in
       let y = (type_specs alone rest (with_tagged w.kind a) w.state).specs in
       let begun = step (steps (tag_tokens t) (enumeration true t (step s))) in
-      let x = (type_rows (Some (pos 0)) es begun).rows in
+      let x = (rows_types (Some (pos 0)) es begun).rows in
       chain (λ r q. more_spec p r.spec q) (λ r. type_specs alone y (with_tagged r.kind b) r.state) (λ r. type_specs alone rest (with_tagged r.kind b) r.state) _ _ (enum_with t x es (step u) (λ v. rows_again (Some (pos 0)) (Some (pos 0)) es begun v)) (λ r. specs_again alone rest (with_tagged w.kind a) (with_tagged r.kind b) w.state r.state)
 
   pub lines_again : (ds : DeclShapes) (fields others : List FieldShape) (s u : State) → type_lines (type_lines ds fields s).decls others u ≡ type_lines ds others u
@@ -163,12 +164,12 @@ mutual
       (λ l. type_fields p j rest (with_field (is_free (field_type (text_of x) others)) (text_of x) (arrays_of l.counts (pointed stars j)) others) (step (field_state (steps (star_tokens stars) u).at (name_pos p x) (is_free (field_type (text_of x) others)) (arrays_of l.counts (pointed stars j)) l.state))) _ _ (lengths_again [] [] ls _ (step (steps (star_tokens stars) u))) (λ l. fields_again p k j rest (with_field free (text_of x) e fields) _ w _)
   fields_again p k j (more_declarators (declarator stars x (function ps) i) rest) fields others s u = rw (fields_again p k j rest fields others _ _) refl
 
-  pub rows_again : (v w : Option ℤ) (es : EnumerShapes) (s u : State) → type_rows w (type_rows v es s).rows u ≡ type_rows w es u
+  pub rows_again : (v w : Option ℤ) (es : EnumerShapes) (s u : State) → rows_types w (rows_types v es s).rows u ≡ rows_types w es u
   rows_again v w no_enumers s u = refl
   rows_again v w (more_enumers x no_node rest) s u = rw (rows_again _ _ rest _ _) refl
   rows_again v w (more_enumers x (one_node a) rest) s u =
       let b = (type_node a (step (step s))).node in
       let r = given_value (step (step s)).at (pos_in a) (type_node a (step (step s))) in
-      let y = (type_rows (after r.value) rest (step (declare s.at x.pos x.text (entity_of r.value) r.state))).rows in
-      ap (λ q. enumerator x (given_value (step (step u)).at q (type_node b (step (step u)))) (type_rows (after (given_value (step (step u)).at q (type_node b (step (step u)))).value) y (step (declare u.at x.pos x.text (entity_of (given_value (step (step u)).at q (type_node b (step (step u)))).value) (given_value (step (step u)).at q (type_node b (step (step u)))).state)))) (pos_again a _)
-      ∙ chain (λ t l. enumerator x (given_value (step (step u)).at (pos_in a) t) l) (λ t. type_rows (after (given_value (step (step u)).at (pos_in a) t).value) y (step (declare u.at x.pos x.text (entity_of (given_value (step (step u)).at (pos_in a) t).value) (given_value (step (step u)).at (pos_in a) t).state))) (λ t. type_rows (after (given_value (step (step u)).at (pos_in a) t).value) rest (step (declare u.at x.pos x.text (entity_of (given_value (step (step u)).at (pos_in a) t).value) (given_value (step (step u)).at (pos_in a) t).state))) _ _ (node_again a _ (step (step u))) (λ t. rows_again _ _ rest _ _)
+      let y = (rows_types (after r.value) rest (step (declare s.at x.pos x.text (entity_of r.value) r.state))).rows in
+      ap (λ q. enumerator x (given_value (step (step u)).at q (type_node b (step (step u)))) (rows_types (after (given_value (step (step u)).at q (type_node b (step (step u)))).value) y (step (declare u.at x.pos x.text (entity_of (given_value (step (step u)).at q (type_node b (step (step u)))).value) (given_value (step (step u)).at q (type_node b (step (step u)))).state)))) (pos_again a _)
+      ∙ chain (λ t l. enumerator x (given_value (step (step u)).at (pos_in a) t) l) (λ t. rows_types (after (given_value (step (step u)).at (pos_in a) t).value) y (step (declare u.at x.pos x.text (entity_of (given_value (step (step u)).at (pos_in a) t).value) (given_value (step (step u)).at (pos_in a) t).state))) (λ t. rows_types (after (given_value (step (step u)).at (pos_in a) t).value) rest (step (declare u.at x.pos x.text (entity_of (given_value (step (step u)).at (pos_in a) t).value) (given_value (step (step u)).at (pos_in a) t).state))) _ _ (node_again a _ (step (step u))) (λ t. rows_again _ _ rest _ _)

@@ -1,22 +1,23 @@
 -- A unit that was typed can be typed again: initialisers, declarations, statements and functions.
 use Rattle.std.specs.Prelude.{nat_eq, ◌||◌}
 use Rattle.std.proofs.Common.{◌≡◌, ℕ, ◌+◌, ℤ, pos, List, [], ◌∷◌, ◌++◌, length, Option, Some, None, Bool, true, false, refl, sym, ap, ◌∙◌, map}
-use Rattle.atac_base.specs.declared.place.Pos.{Pos}
-use Rattle.c_syntax.specs.Shape.{TypeOf, Leaf, number, char, str, name, Prefix, unary, before, size_of, NodeShape, node, ExprShape, leaf, paren, call, prefix, size_of_type, cast, suffix, two, choose, probe, SuffixShape, index, field, behind, ProbeShape, simple, select, InitShape, one, listed, InitShapes, no_inits, more_inits, MaybeInit, no_init, one_init, MaybeNode, no_node, one_node, LabelShape, case, default, StmtShape, stmt, FormShape, compound, simply, when, either, while, do_while, for, switch, break, continue, return, CompoundShape, braces, ItemShapes, no_items, more_items, ExternalShape, defined, declared, UnitShape, LengthShapes, SpecShapes, DeclShape, decl, DeclShapes, no_decls, more_decls, DeclaratorShape, declarator, DeclaratorShapes, no_declarators, more_declarators, DeclFormShape, arrays, function, ParamsShape, empty, void, params}
+use Rattle.c_base.specs.declared.place.Pos.{Pos}
+use Rattle.c_syntax.specs.Shape.{TypeOf, Leaf, number, char, str, name, Prefix, unary, before, size_of, NodeShape, node, ExprShape, leaf, paren, call, prefix, size_of_type, cast, suffix, two, choose, probe, SuffixShape, index, field, behind, ProbeShape, simple, select, InitShape, one, listed, InitShapes, no_inits, more_inits, MaybeInit, no_init, one_init, MaybeNode, no_node, one_node, LabelShape, case, default, StmtShape, stmt, FormShape, compound, simply, when, either, while, do_while, for, switch, break, continue, return, CompoundShape, braces, ItemShapes, no_items, more_items, ExternalShape, defined, declared, UnitShape, LengthShapes, SpecShapes, no_specs, more_specs, word, struct, enum, DeclShape, decl, DeclShapes, no_decls, more_decls, DeclaratorShape, declarator, DeclaratorShapes, no_declarators, more_declarators, DeclFormShape, arrays, function, ParamsShape, empty, void, params}
 use Rattle.c_syntax.specs.declared.tree.Named.{Named}
 use Rattle.c_syntax.specs.declared.tree.Star.{Star}
-use Rattle.c_tree.specs.State.{State, first_place, step, steps}
+use Rattle.c_tree.specs.State.{State, step, steps}
+use Rattle.c_tables.specs.Rows.{first_place, text_of, name_pos}
 use Rattle.c_tree.specs.Rulings.{rule, of_kind, kind_at, by}
-use Rattle.c_values.specs.Constants as constants
+use Rattle.c_constants.specs.Constants as constants
 use Rattle.c_tree.specs.Stating.{Surroundings, in_loop, in_switch, Labels, no_labels, tested, switched, TypedMaybe, TypedLabels, type_maybe, type_test, type_result, type_marks, case_state, case_labels, default_labels, one_label, type_labels, TypedStmt, TypedBody, TypedCompound, TypedItems, type_stmt, type_body, type_compound, type_items}
-use Rattle.c_tree.specs.Parts.{text_of, name_pos, judged_constant, Length, counted, left_out, unclear, TypedLengths, TypedSpecs, pointed, star_tokens, unspelled, spelled_rule}
+use Rattle.c_tree.specs.Parts.{judged_constant, Length, counted, left_out, unclear, TypedLengths, TypedSpecs, Spelled, pointed, star_tokens, unspelled, spelled_rule}
 use Rattle.c_tree.specs.Declaring.{TypedFunction, name_tokens, claim_name, token_of_name, declare_variable, variable_rule, has_init, TypedMaybeInit, an_init, type_maybe_init, TypedDeclarator, type_variable, TypedParam, TypedParams, declare_parameter, parameter_rule, name_demand, type_param, one_param, type_param_list, listed_params, type_params, type_function, TypedDeclarators, plain_declarator, type_declarator, type_declarators, none_declared, semicolon, opened_scope, closed_scope, TypedDecl, type_decl, TypedDeclList, type_decls}
 use Rattle.c_tree.specs.Sorts.{TypedNode, pos_in}
 use Rattle.c_tree.specs.Operators.{hushed}
 use Rattle.c_tree.specs.Typing.{type_node, type_form, type_specs, type_lengths}
 use Rattle.c_tree.specs.Initialisers.{TypedInit, TypedInits, one_item, form_in, filled, chars_of, one_init_of, string_init, value_init, slots, slot, slot_rule, further, Slots, init_pos, list_rule, list_end, type_init, type_inits, length_in, length_in_form, count_items, lengths_with}
-use Rattle.c_tree.specs.Units.{begun_function, ended_function, TypedExternal, type_external, TypedExternals, type_externals, type_line, start, type_unit}
-use Rattle.c_kinds.specs.Verdicts.{result_type}
+use Rattle.c_tree.specs.Units.{specs_place, begun_function, ended_function, TypedExternal, type_external, TypedExternals, type_externals, type_line, start, type_unit}
+use Rattle.c_type_rules.specs.Verdicts.{result_type}
 use Rattle.c_syntax.specs.declared.tree.ProbeMark.{ProbeMark}
 use Rattle.c_tree.proofs.Again.{chain, node_again, pos_again, specs_again, lengths_again}
 
@@ -159,7 +160,7 @@ abbrev param_of : Bool → Pos → List Star → Option Named → MaybeInit → 
 param_of defining p stars x i s t l =
     let begun = steps (star_tokens stars) (rule (spelled_rule t.spelled) s.at p t.state) in
     let token = token_of_name s.at x begun in
-    let k = parameter_rule l.counts (pointed stars (kind_at (spelled_rule t.spelled))) in
+    let k = parameter_rule l.state.rooms l.counts (pointed stars (kind_at (spelled_rule t.spelled))) in
     record {
       param = decl p t.specs (more_declarators (declarator stars x (arrays l.lengths) i) no_declarators);
       kind = kind_at k;
@@ -396,20 +397,35 @@ abbrev params_in : DeclaratorShape → ParamsShape
 params_in (declarator stars x (arrays ls) i) = empty
 params_in (declarator stars x (function ps) i) = ps
 
-abbrev at_declarator : State → TypedSpecs → State
-at_declarator s t = rule (spelled_rule t.spelled) s.at first_place t.state
+-- specifiers begin where they did
+specs_place_again : (specs : SpecShapes) (a : Spelled) (s : State) → specs_place (type_specs false specs a s).specs ≡ specs_place specs
+specs_place_again no_specs a s = refl
+specs_place_again (more_specs p (word k) rest) a s = refl
+specs_place_again (more_specs p (struct t ds) rest) a s = refl
+specs_place_again (more_specs p (enum t es) rest) a s = refl
+
+abbrev at_declarator : Pos → State → TypedSpecs → State
+at_declarator p s t = rule (spelled_rule t.spelled) s.at p t.state
+
+abbrev external_with : Pos → SpecShapes → List Star → Option Named → ParamsShape → MaybeInit → List ProbeMark → CompoundShape → State → TypedExternal
+external_with q specs stars x ps i marks c u =
+    let r = type_specs false specs unspelled u in
+    let g = type_function true (kind_at (spelled_rule r.spelled)) stars x ps i (at_declarator q u r) in
+    defined_of r g marks (type_compound (surrounded (body_result stars r)) c (body_state marks g))
 
 pub external_again : (x : ExternalShape) (s u : State) → type_external (type_external x s).external u ≡ type_external x u
 external_again (declared d) s u = ap (λ (t : TypedDecl). record { external = declared t.decl; state = t.state }) (decl_again d s u)
 external_again (defined specs (declarator stars x (arrays ls) i) marks c) s u = refl
 external_again (defined specs (declarator stars x (function ps) i) marks c) s u =
     let t = type_specs false specs unspelled s in
-    let f = type_function true (kind_at (spelled_rule t.spelled)) stars x ps i (at_declarator s t) in
+    let q = specs_place specs in
+    let f = type_function true (kind_at (spelled_rule t.spelled)) stars x ps i (at_declarator q s t) in
     let b = type_compound (surrounded (body_result stars t)) c (body_state marks f) in
     let r = type_specs false specs unspelled u in
-    let g = type_function true (kind_at (spelled_rule r.spelled)) stars x ps i (at_declarator u r) in
-    ap (λ r. defined_of r (type_function true (kind_at (spelled_rule r.spelled)) stars x (params_in f.name) i (at_declarator u r)) marks (type_compound (surrounded (body_result stars r)) b.compound (body_state marks (type_function true (kind_at (spelled_rule r.spelled)) stars x (params_in f.name) i (at_declarator u r))))) (specs_again false specs unspelled unspelled s u)
-    ∙ ap (λ g. defined_of r g marks (type_compound (surrounded (body_result stars r)) b.compound (body_state marks g))) (same_function_type true (kind_at (spelled_rule r.spelled)) stars x _ ps i (at_declarator u r) (λ v. params_again true ps _ v))
+    let g = type_function true (kind_at (spelled_rule r.spelled)) stars x ps i (at_declarator q u r) in
+    ap (λ q. external_with q t.specs stars x (params_in f.name) i marks b.compound u) (specs_place_again specs unspelled s)
+    ∙ ap (λ r. defined_of r (type_function true (kind_at (spelled_rule r.spelled)) stars x (params_in f.name) i (at_declarator q u r)) marks (type_compound (surrounded (body_result stars r)) b.compound (body_state marks (type_function true (kind_at (spelled_rule r.spelled)) stars x (params_in f.name) i (at_declarator q u r))))) (specs_again false specs unspelled unspelled s u)
+    ∙ ap (λ g. defined_of r g marks (type_compound (surrounded (body_result stars r)) b.compound (body_state marks g))) (same_function_type true (kind_at (spelled_rule r.spelled)) stars x _ ps i (at_declarator q u r) (λ v. params_again true ps _ v))
     ∙ ap (defined_of r g marks) (compound_again (surrounded (body_result stars t)) (surrounded (body_result stars r)) c (body_state marks f) (body_state marks g))
 
 abbrev one_external : TypedExternal → TypedExternals → TypedExternals

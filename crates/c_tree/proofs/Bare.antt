@@ -1,15 +1,15 @@
 -- Typing changes the notes of a tree, and nothing else of it.
 use Rattle.std.proofs.Common.{◌≡◌, ℕ, ℤ, pos, List, [], ◌∷◌, ◌++◌, Option, Some, None, Bool, true, false, refl, sym, ap, ◌∙◌, map}
-use Rattle.atac_base.specs.declared.place.Pos.{Pos}
+use Rattle.c_base.specs.declared.place.Pos.{Pos}
 use Rattle.c_syntax.specs.declared.tree.Named.{Named}
 use Rattle.c_syntax.specs.declared.tree.Star.{Star}
 use Rattle.c_syntax.specs.Shape.{TypeOf, bare, Leaf, number, char, str, name, Prefix, unary, before, size_of, Infix, NodeShape, node, ExprShape, leaf, paren, call, prefix, size_of_type, cast, suffix, two, choose, probe, SuffixShape, index, field, behind, ProbeShape, simple, select, NodeShapes, no_nodes, more_nodes, MaybeNode, no_node, one_node, LengthShapes, no_lengths, more_lengths, TypeShape, type_name, SpecShapes, no_specs, more_specs, SpecShape, word, struct, enum, MaybeDecls, no_members, members, MaybeEnumers, no_rows, rows, EnumerShapes, no_enumers, more_enumers, DeclShape, decl, DeclShapes, no_decls, more_decls, DeclaratorShape, declarator, DeclaratorShapes, no_declarators, more_declarators, DeclFormShape, arrays, function, ParamsShape, empty, void, params, MaybeInit, no_init, one_init, InitShape, one, listed, InitShapes, no_inits, more_inits, LabelShape, case, default, StmtShape, stmt, FormShape, compound, simply, when, either, while, do_while, for, switch, break, continue, return, CompoundShape, braces, ItemShapes, no_items, more_items, ExternalShape, defined, declared, UnitShape}
-use Rattle.c_values.specs.Constants as constants
-use Rattle.c_tree.specs.Tables.{FieldShape}
+use Rattle.c_constants.specs.Constants as constants
+use Rattle.c_tables.specs.Tables.{FieldShape}
 use Rattle.c_tree.specs.State.{State, step, steps}
 use Rattle.c_tree.specs.Operators.{Given}
 use Rattle.c_tree.specs.Parts.{Length, Spelled}
-use Rattle.c_tree.specs.Typing.{type_node, type_form, type_arguments, type_cases, type_type, type_lengths, type_specs, type_struct, type_lines, type_fields, type_enum, type_rows, type_value}
+use Rattle.c_tree.specs.Typing.{type_node, type_form, type_arguments, type_cases, type_type, type_lengths, type_specs, type_struct, type_lines, type_fields, type_enum, rows_types, type_value}
 use Rattle.c_tree.specs.Initialisers.{Slots, form_in, filled, chars_of, one_init_of, type_init, type_inits}
 use Rattle.c_tree.specs.Declaring.{type_maybe_init, type_param_list, type_params, type_declarator, type_declarators, type_decl, type_decls}
 use Rattle.c_tree.specs.Stating.{Surroundings, Labels, case_labels, default_labels, type_maybe, type_test, type_result, type_labels, type_stmt, type_body, type_compound, type_items}
@@ -85,7 +85,7 @@ mutual
   fields_bare p k (more_declarators (declarator stars x (arrays ls) i) rest) fields s = both (λ y z. more_declarators (declarator stars x (arrays y) (bare_maybe_init i)) z) (lengths_bare [] ls _) (fields_bare p k rest _ _)
   fields_bare p k (more_declarators (declarator stars x (function ps) i) rest) fields s = ap (more_declarators (declarator stars x (function (bare_params ps)) (bare_maybe_init i))) (fields_bare p k rest _ _)
 
-  pub rows_bare : (v : Option ℤ) (es : EnumerShapes) (s : State) → bare_enumers (type_rows v es s).rows ≡ bare_enumers es
+  pub rows_bare : (v : Option ℤ) (es : EnumerShapes) (s : State) → bare_enumers (rows_types v es s).rows ≡ bare_enumers es
   rows_bare v no_enumers s = refl
   rows_bare v (more_enumers x no_node rest) s = ap (more_enumers x no_node) (rows_bare _ rest _)
   rows_bare v (more_enumers x (one_node a) rest) s = both (λ y z. more_enumers x (one_node y) z) (node_bare a _) (rows_bare _ rest _)

@@ -1,5 +1,3 @@
-pub mod Named
-pub mod Rows
 pub mod Worked
 pub mod Again
 pub mod AgainUnits

@@ -1,8 +1,8 @@
 -- Worked rows: struct s and a structure with no tag, both incomplete, and int f(char).
 use Rattle.std.proofs.Common.{◌≡◌, [], ◌∷◌, Some, None, refl}
-use Rattle.atac_base.specs.declared.place.IntKind.TheVariants.{Char, Int}
+use Rattle.c_base.specs.declared.place.IntKind.TheVariants.{Char, Int}
 use Rattle.c_syntax.specs.Shape.{int}
-use Rattle.c_tree.specs.Tables.{FieldShape, StructShape, FunctionShape, TablesShape, with_fields, with_definition}
+use Rattle.c_tables.specs.Tables.{FieldShape, StructShape, FunctionShape, TablesShape, with_fields, with_definition}
 
 abbrev s : StructShape
 s = record { tag = Some (115 ∷ []); fields = [] }

@@ -1,26 +1,27 @@
 -- How declarations are typed (C89, 3.5): variables, functions, parameters.
 use Rattle.std.specs.Prelude.{ℕ, ℤ, ◌+◌, ◌-◌, ◌++◌, ◌&&◌, ◌||◌, List, [], ◌∷◌, length, map, nat_eq, Bool, true, false, not, is_some, Option, Some, None, option_map, if◌then◌else◌}
 use Rattle.std.specs.Ordering.{int_eq}
-use Rattle.atac_base.specs.declared.place.Pos.{Pos}
+use Rattle.c_base.specs.declared.place.Pos.{Pos}
 use Rattle.c_syntax.specs.declared.text.Text.{Text}
 use Rattle.c_syntax.specs.declared.tree.Named.{Named}
 use Rattle.c_syntax.specs.declared.tree.ProbeMark.{ProbeMark}
 use Rattle.c_syntax.specs.declared.tree.Star.{Star}
 use Rattle.c_syntax.specs.Shape.{TypeOf, pointer, def, SpecShapes, no_specs, DeclShape, decl, DeclShapes, no_decls, more_decls, DeclaratorShape, declarator, DeclaratorShapes, no_declarators, more_declarators, DeclFormShape, arrays, function, ParamsShape, empty, void, params, LengthShapes, MaybeInit, no_init, one_init}
-use Rattle.c_kinds.specs.Layouts.{Measure}
-use Rattle.c_kinds.specs.Verdicts.{parameter_type, result_type}
+use Rattle.c_type_rules.specs.Layouts.{Measure, known, incomplete, too_large, measure}
+use Rattle.c_type_rules.specs.Verdicts.{parameter_type, result_type}
 use Rattle.c_scopes.specs.Rows.{Scope, Scoped}
 use Rattle.c_scopes.specs.Scoping.{find_here, declared, entered, left, closed}
-use Rattle.c_tree.specs.Tables.{FunctionShape, VariableShape}
+use Rattle.c_tables.specs.Tables.{FunctionShape, VariableShape, TablesShape}
 use Rattle.c_tree.specs.declared.meaning.Entity.{Entity}
 use Rattle.c_tree.specs.declared.meaning.Entity.TheVariants as entity
-use Rattle.c_tree.specs.declared.meaning.Builtin.{Builtin}
-use Rattle.c_tree.specs.declared.meaning.Builtin.TheVariants.{GetChar, PutChar, Exit}
-use Rattle.c_tree.specs.Builtins.{builtin_name, builtin_result, builtin_params}
-use Rattle.c_tree.specs.State.{State, first_place, step, steps, complain, demand, is_clean, row, is_function, Numbered, mention}
-use Rattle.c_tree.specs.Rulings.{Ruled, allowed, unsettled, refused, by, kind_at, rule, of_kind, whole}
+use Rattle.c_tables.specs.declared.builtins.Builtin.{Builtin}
+use Rattle.c_tables.specs.declared.builtins.Builtin.TheVariants.{GetChar, PutChar, Exit}
+use Rattle.c_tables.specs.Builtins.{builtin_name, builtin_result, builtin_params}
+use Rattle.c_tree.specs.State.{State, step, steps, complain, demand, is_clean, is_function, Numbered, mention}
+use Rattle.c_tables.specs.Rows.{first_place, row, has_name, text_of, name_pos}
+use Rattle.c_tree.specs.Rulings.{Ruled, allowed, unsettled, refused, by, then_rule, kind_at, rule, of_kind, whole}
 use Rattle.c_tree.specs.Operators.{claim}
-use Rattle.c_tree.specs.Parts.{Length, counted, left_out, unclear, TypedLengths, pointed, star_tokens, arrays_of, unspelled, spelled_rule, with_name, text_of, name_pos}
+use Rattle.c_tree.specs.Parts.{Length, counted, left_out, unclear, TypedLengths, pointed, star_tokens, arrays_of, unspelled, spelled_rule, with_name}
 use Rattle.c_tree.specs.Initialisers.{lengths_with, TypedInit, type_init}
 use Rattle.c_tree.specs.Typing.{type_specs, type_lengths}
 
@@ -148,18 +149,27 @@ abbrev pub declare_parameter : ℕ → Option Named → Option TypeOf → State 
 declare_parameter token None k s = s
 declare_parameter token (Some x) k s = parameter_at token x.pos x.text k (find_here x.text s.names) s
 
+-- a pointer to an element of that room, which isn't too large; it may be incomplete
+abbrev pub by_element : Measure → TypeOf → Ruled
+by_element (known e) t = allowed (pointer t)
+by_element incomplete t = allowed (pointer t)
+by_element too_large t = refused 42
+
+abbrev pub element_pointer : List Measure → TypeOf → Ruled
+element_pointer rooms t = by_element (measure rooms t) t
+
 -- an array is a pointer to its element, whatever its length
-abbrev pub element_lengths : List Length → TypeOf → Ruled
-element_lengths [] t = allowed t
-element_lengths (unclear ∷ ls) t = unsettled
-element_lengths (l ∷ ls) t = if any_unclear ls then unsettled else if any_left_out ls then refused 39 else of_kind (option_map pointer (arrays_of ls (Some t))) allowed
+abbrev pub element_lengths : List Measure → List Length → TypeOf → Ruled
+element_lengths rooms [] t = allowed t
+element_lengths rooms (unclear ∷ ls) t = unsettled
+element_lengths rooms (l ∷ ls) t = then_rule (with_lengths ls t) (element_pointer rooms)
 
 abbrev pub scalar_rule : Ruled → Ruled
 scalar_rule (allowed t) = by 33 (parameter_type (Some t))
 scalar_rule r = r
 
-abbrev pub parameter_rule : List Length → Option TypeOf → Ruled
-parameter_rule ls k = scalar_rule (of_kind k (element_lengths ls))
+abbrev pub parameter_rule : List Measure → List Length → Option TypeOf → Ruled
+parameter_rule rooms ls k = scalar_rule (of_kind k (element_lengths rooms ls))
 
 -- a parameter of a definition has a name
 abbrev pub name_demand : Bool → Option Named → ℕ → Pos → State → State
@@ -174,7 +184,7 @@ type_param defining p specs stars x ls i s =
     let begun = steps (star_tokens stars) (rule r s.at p t.state) in
     let l = type_lengths [] ls (steps (name_tokens x) (claim_name defining x begun)) in
     let token = token_of_name s.at x begun in
-    let k = parameter_rule l.counts (pointed stars (kind_at r)) in
+    let k = parameter_rule l.state.rooms l.counts (pointed stars (kind_at r)) in
     let d = declare_parameter token x (kind_at k) (rule k token (name_pos p x) (name_demand defining x s.at p l.state)) in
     record { param = decl p t.specs (more_declarators (declarator stars x (arrays l.lengths) i) no_declarators); kind = kind_at k; state = d }
 
@@ -243,10 +253,11 @@ same_builtin PutChar PutChar = true
 same_builtin Exit Exit = true
 same_builtin _ _ = false
 
--- the two are one function
+-- the two are one function; what stands for nothing may be any
 abbrev pub same_function : Entity → Entity → Bool
 same_function (entity.Function n) (entity.Function m) = nat_eq n m
 same_function (entity.Builtin a) (entity.Builtin b) = same_builtin a b
+same_function e entity.Unknown = true
 same_function _ _ = false
 
 abbrev pub names_function : Entity → Bool
@@ -262,16 +273,28 @@ has_body (Some f) = is_some f.defined
 -- it counts as defined already
 abbrev pub is_defined : Entity → State → Bool
 is_defined (entity.Function n) s = has_body (row s.tables.functions n)
+is_defined entity.Unknown s = false
 is_defined _ s = true
 
 abbrev pub function_at : Bool → ℕ → Pos → Text → Entity → Option Entity → State → State
 function_at defining token p x e None s = with_name x e s
 function_at defining token p x e (Some o) s = demand (same_function e o && not (defining && is_defined e s)) 31 token p s
 
--- a function of an unclear type
-abbrev pub unclear_at : ℕ → Pos → Text → Option Entity → State → State
-unclear_at token p x None s = with_name x entity.Unknown s
-unclear_at token p x (Some o) s = demand (names_function o) 31 token p s
+-- a function of an unclear type, which is equal to every other
+abbrev pub unclear_at : Bool → ℕ → Pos → Text → Option Entity → State → State
+unclear_at defining token p x None s = with_name x entity.Unknown s
+unclear_at defining token p x (Some o) s = demand (names_function o && not (defining && is_defined o s)) 31 token p s
+
+-- its body is one of each function of that name
+abbrev pub with_body : Text → FunctionShape → FunctionShape
+with_body x f = if has_name x f then record f { defined = Some [] } else f
+
+abbrev pub with_bodies : Text → TablesShape → TablesShape
+with_bodies x t = record t { functions = map (with_body x) t.functions }
+
+abbrev pub bodied : Bool → Text → State → State
+bodied true x s = record s { tables = with_bodies x s.tables }
+bodied false x s = s
 
 abbrev pub mentioned : Bool → ℕ → Pos → Text → Signature → Numbered → Numbered
 mentioned defining token p x f m = record {
@@ -280,7 +303,7 @@ mentioned defining token p x f m = record {
 }
 
 abbrev pub declare_function : Bool → ℕ → Pos → Text → Option Signature → State → Numbered
-declare_function defining token p x None s = record { number = length s.tables.functions + 1; state = unclear_at token p x (find_here x s.names) s }
+declare_function defining token p x None s = record { number = length s.tables.functions + 1; state = bodied defining x (unclear_at defining token p x (find_here x s.names) s) }
 declare_function defining token p x (Some f) s = mentioned defining token p x f (mention x f.result f.params s)
 
 -- a function's declarator, its number, and what its parameters are

@@ -1,12 +1,12 @@
 -- How initialisers are typed (C89, 3.5.7).
 use Rattle.std.specs.Prelude.{ℕ, zero, suc, ◌+◌, ◌-◌, ◌*◌, ◌^◌, min, List, [], ◌∷◌, length, map, nat_eq, nat_le, Bool, true, false, Option, Some, None, if◌then◌else◌}
-use Rattle.atac_base.specs.declared.place.Pos.{Pos}
-use Rattle.atac_base.specs.declared.place.IntKind.{IntKind}
-use Rattle.atac_base.specs.declared.place.IntKind.TheVariants.{Char, UChar}
+use Rattle.c_base.specs.declared.place.Pos.{Pos}
+use Rattle.c_base.specs.declared.place.IntKind.{IntKind}
+use Rattle.c_base.specs.declared.place.IntKind.TheVariants.{Char, UChar}
 use Rattle.c_syntax.specs.declared.text.Text.{Text}
 use Rattle.c_syntax.specs.Shape.{TypeOf, int, array, structure, str, leaf, NodeShape, node, ExprShape, InitShape, one, listed, InitShapes, no_inits, more_inits, MaybeInit, no_init, one_init}
-use Rattle.c_kinds.specs.Verdicts.{fits_type}
-use Rattle.c_values.specs.Constants as constants
+use Rattle.c_type_rules.specs.Verdicts.{fits_type}
+use Rattle.c_constants.specs.Constants as constants
 use Rattle.c_tree.specs.State.{State, step, steps, fields_of}
 use Rattle.c_tree.specs.Rulings.{Ruled, allowed, unsettled, refused, by, rule, of_kind, allowed_if}
 use Rattle.c_tree.specs.Sorts.{Sort, TypedNode, null, pos_in}

@@ -1,6 +1,3 @@
-pub mod Named
-pub mod Tables
-pub mod Builtins
 pub mod State
 pub mod Rulings
 pub mod Sorts

@@ -1,32 +1,33 @@
 -- What the constants, names, calls, operators and probes of an expression come to (C89, 3.3), by what is known of their operands.
 use Rattle.std.specs.Prelude.{ℕ, ℤ, pos, ◌+◌, ◌-◌, ◌++◌, ◌&&◌, ◌||◌, List, [], ◌∷◌, length, map, nat_eq, Bool, true, false, not, Option, Some, None, option_map, if◌then◌else◌}
 use Rattle.std.specs.Ordering.{int_eq}
-use Rattle.atac_base.specs.declared.place.Pos.{Pos}
-use Rattle.atac_base.specs.declared.place.IntKind.{IntKind}
-use Rattle.atac_base.specs.declared.place.IntKind.TheVariants.{Char, Int}
+use Rattle.c_base.specs.declared.place.Pos.{Pos}
+use Rattle.c_base.specs.declared.place.IntKind.{IntKind}
+use Rattle.c_base.specs.declared.place.IntKind.TheVariants.{Char, Int}
 use Rattle.c_arith.specs.Arith.{wrap}
 use Rattle.c_syntax.specs.declared.text.Text.{Text}
 use Rattle.c_syntax.specs.declared.tree.UnaryOp.{UnaryOp}
 use Rattle.c_syntax.specs.declared.tree.UnaryOp.TheVariants as front
 use Rattle.c_syntax.specs.declared.tree.BinaryOp.{BinaryOp}
 use Rattle.c_syntax.specs.Shape.{TypeOf, int, pointer, array, structure, known, number, name, before, Infix, plain, and, or, assign, comma, Access, dot, arrow, Probing, block, test, used, def, two, probe, field, behind, select, function}
-use Rattle.c_kinds.specs.Layouts.{Measure}
-use Rattle.c_kinds.specs.Verdicts.{binary_type, truth_type, logical_type, conditional_type, fits_type, compound_type, step_type, promoted_type, target_type, element_type, address_type, structure_type, pointed_type, cast_type, scalar_type}
-use Rattle.c_kinds.specs.Kinds.{decay}
-use Rattle.c_values.specs.declared.numbers.Number.{Number}
-use Rattle.c_values.specs.Numbers.{number_of}
-use Rattle.c_values.specs.declared.constants.Constant.{Constant}
-use Rattle.c_values.specs.declared.constants.Constant.TheVariants.{No, Known, Variable, Literal}
-use Rattle.c_values.specs.Constants as constants
-use Rattle.c_values.specs.Probes.{probe_number_of}
+use Rattle.c_type_rules.specs.Layouts.{Measure}
+use Rattle.c_type_rules.specs.Verdicts.{binary_type, truth_type, logical_type, conditional_type, fits_type, compound_type, step_type, promoted_type, target_type, element_type, address_type, structure_type, pointed_type, cast_type, scalar_type}
+use Rattle.c_type_rules.specs.Kinds.{decay}
+use Rattle.c_constants.specs.declared.numbers.Number.{Number}
+use Rattle.c_constants.specs.Numbers.{number_of}
+use Rattle.c_constants.specs.declared.constants.Constant.{Constant}
+use Rattle.c_constants.specs.declared.constants.Constant.TheVariants.{No, Known, Variable, Literal}
+use Rattle.c_constants.specs.Constants as constants
+use Rattle.c_constants.specs.Probes.{probe_number_of}
 use Rattle.c_scopes.specs.Rows.{Scope}
 use Rattle.c_scopes.specs.Scoping.{find, named}
-use Rattle.c_tree.specs.Tables.{FunctionShape, VariableShape}
+use Rattle.c_tables.specs.Tables.{FunctionShape, VariableShape}
 use Rattle.c_tree.specs.declared.meaning.Entity.{Entity}
 use Rattle.c_tree.specs.declared.meaning.Entity.TheVariants as entity
-use Rattle.c_tree.specs.State.{Seen, State, step, complain, demand, row, fields_of, field_type, Numbered, mention, counts}
+use Rattle.c_tree.specs.State.{Seen, State, step, complain, demand, fields_of, field_type, Numbered, mention, counts}
+use Rattle.c_tables.specs.Rows.{row}
 use Rattle.c_tree.specs.Rulings.{Ruled, allowed, unsettled, refused, by, then_rule, kind_at, rule, of_kind, allowed_if, whole, object, complete, moved, size_constant, sized, as_size, cast_constant, element_constant, comma_kind}
-use Rattle.c_tree.specs.Builtins.{builtin_name, builtin_result, builtin_params}
+use Rattle.c_tables.specs.Builtins.{builtin_name, builtin_result, builtin_params}
 use Rattle.c_tree.specs.Sorts.{Sort, no_sort, a_value, a_place, plainly, naming, valuing, Outcome, comes_to, null, changeable}
 
 -- ---- constants and names
@@ -335,9 +336,11 @@ abbrev pub select_cases : List (Option ℤ) → TypeOf → Ruled
 select_cases vs (int k) = allowed_if (differ k vs) 33 (int k)
 select_cases vs t = unsettled
 
--- a select probe round an integer, with constants that differ in its promoted type
-abbrev pub select_rule : List (Option ℤ) → Sort → Ruled
-select_rule vs a = then_rule (then_rule (by 33 (promoted_type a.kind)) (select_cases vs)) (λ t. of_kind a.kind allowed)
+-- a select probe round an integer, with constants that differ in its promoted type, if no complaint stands inside
+abbrev pub select_rule : Bool → List (Option ℤ) → Sort → Ruled
+select_rule false vs a = unsettled
+select_rule true vs a = then_rule (then_rule (by 33 (promoted_type a.kind)) (select_cases vs)) (λ t. of_kind a.kind allowed)
 
-abbrev pub typed_select : ℕ → Pos → List (Option ℤ) → Sort → State → Outcome
-typed_select token p vs a s = comes_to (plainly (a_value (kind_at (select_rule vs a)) No)) (step (rule (select_rule vs a) token p s))
+-- no complaint came in its constants and its expression if that test holds
+abbrev pub typed_select : ℕ → Pos → Bool → List (Option ℤ) → Sort → State → Outcome
+typed_select token p clean vs a s = comes_to (plainly (a_value (kind_at (select_rule clean vs a)) No)) (step (rule (select_rule clean vs a) token p s))

@@ -1,7 +1,7 @@
 -- The parts of declarations that hold expressions: array lengths, specifiers, tags, fields and enumerators (C89, 3.5).
 use Rattle.std.specs.Prelude.{ℕ, ℤ, pos, ◌+◌, ◌-◌, ◌++◌, ◌^◌, int_le, ◌+ℤ◌, min, unsigned_abs, List, [], ◌∷◌, length, map, Bool, true, false, not, Option, Some, None, option_map, if◌then◌else◌}
-use Rattle.atac_base.specs.declared.place.Pos.{Pos}
-use Rattle.atac_base.specs.declared.place.IntKind.TheVariants.{Int}
+use Rattle.c_base.specs.declared.place.Pos.{Pos}
+use Rattle.c_base.specs.declared.place.IntKind.TheVariants.{Int}
 use Rattle.c_arith.specs.Arith.{in_range}
 use Rattle.c_syntax.specs.declared.text.Text.{Text}
 use Rattle.c_syntax.specs.declared.token.Key.{Key}
@@ -9,19 +9,20 @@ use Rattle.c_syntax.specs.declared.token.Key.TheVariants as key
 use Rattle.c_syntax.specs.declared.tree.Named.{Named}
 use Rattle.c_syntax.specs.declared.tree.Star.{Star}
 use Rattle.c_syntax.specs.Shape.{TypeOf, int, pointer, array, structure, nothing, known, number, name, before, and, or, node, field, behind, NodeShapes, no_nodes, more_nodes, MaybeNode, no_node, one_node, LengthShapes, no_lengths, more_lengths, SpecShapes, more_specs, SpecShape, rows, EnumerShapes, DeclShapes, DeclaratorShapes, arrays}
-use Rattle.c_kinds.specs.Layouts.{incomplete, structure_measure}
-use Rattle.c_values.specs.Constants as constants
-use Rattle.c_values.specs.declared.words.Words.{Words}
-use Rattle.c_values.specs.declared.words.Base.{Base}
-use Rattle.c_values.specs.declared.words.Base.TheVariants as base
-use Rattle.c_values.specs.Words as words
+use Rattle.c_type_rules.specs.Layouts.{incomplete, structure_measure}
+use Rattle.c_constants.specs.Constants as constants
+use Rattle.c_constants.specs.declared.words.Words.{Words}
+use Rattle.c_constants.specs.declared.words.Base.{Base}
+use Rattle.c_constants.specs.declared.words.Base.TheVariants as base
+use Rattle.c_constants.specs.Words as words
 use Rattle.c_scopes.specs.Scoping.{find, find_here, declared}
-use Rattle.c_tree.specs.Tables.{FieldShape, changed_at, with_fields}
+use Rattle.c_tables.specs.Tables.{FieldShape, changed_at, with_fields}
 use Rattle.c_tree.specs.declared.meaning.Entity.{Entity}
 use Rattle.c_tree.specs.declared.meaning.Entity.TheVariants as entity
 use Rattle.c_tree.specs.declared.meaning.Tag.{Tag}
 use Rattle.c_tree.specs.declared.meaning.Tag.TheVariants as tag
-use Rattle.c_tree.specs.State.{State, complain, demand, row, is_set, counts}
+use Rattle.c_tree.specs.State.{State, complain, demand, is_set, counts}
+use Rattle.c_tables.specs.Rows.{row}
 use Rattle.c_tree.specs.Rulings.{Ruled, allowed, refused, rule, of_kind, allowed_if, whole, object, complete}
 use Rattle.c_tree.specs.Sorts.{Sort, TypedNode, pos_in}
 use Rattle.c_tree.specs.Operators.{Given, given_at, constant_rule}
@@ -254,14 +255,6 @@ pub record TypedNames : Type 0 where
 abbrev pub is_free : Option TypeOf → Bool
 is_free None = true
 is_free (Some t) = false
-
-abbrev pub text_of : Option Named → Text
-text_of None = []
-text_of (Some x) = x.text
-
-abbrev pub name_pos : Pos → Option Named → Pos
-name_pos p None = p
-name_pos p (Some x) = x.pos
 
 -- the field behind those before it, where it has a type and a name of its own
 abbrev pub with_field : Bool → Text → Option TypeOf → List FieldShape → List FieldShape

@@ -4,8 +4,8 @@ use Rattle.c_syntax.specs.declared.tree.ProgramLine.{ProgramLine}
 use Rattle.c_syntax.specs.Shape.{UnitShape}
 use Rattle.c_syntax.specs.Shaped.{ShapedUnit}
 use Rattle.c_syntax.specs.Grammar.{tokens_of}
-use Rattle.c_values.specs.Probes.{digest_of}
-use Rattle.c_tree.specs.Tables.{TablesShape}
+use Rattle.c_constants.specs.Probes.{digest_of}
+use Rattle.c_tables.specs.Tables.{TablesShape}
 use Rattle.c_tree.specs.Units.{typed_unit, complaints}
 use Rattle.c_tree.specs.Erased.{erased_unit}
 

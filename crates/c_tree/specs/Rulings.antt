@@ -1,14 +1,14 @@
 -- What an operator's operands come to: the type of the result, or the number of a complaint.
 use Rattle.std.specs.Prelude.{ℕ, ℤ, pos, ◌-◌, Bool, true, false, Option, Some, None, List, nat_eq, if◌then◌else◌}
-use Rattle.atac_base.specs.declared.place.Pos.{Pos}
-use Rattle.atac_base.specs.declared.place.IntKind.TheVariants.{ULong}
+use Rattle.c_base.specs.declared.place.Pos.{Pos}
+use Rattle.c_base.specs.declared.place.IntKind.TheVariants.{ULong}
 use Rattle.c_syntax.specs.Shape.{TypeOf, int, pointer, array, structure, nothing}
-use Rattle.c_kinds.specs.Kinds.{decay}
-use Rattle.c_kinds.specs.Layouts.{Extent, Measure, known, incomplete, too_large, measure}
-use Rattle.c_kinds.specs.Verdicts.{Verdict, fine, unknown, wrong}
-use Rattle.c_values.specs.declared.constants.Constant.{Constant}
-use Rattle.c_values.specs.declared.constants.Constant.TheVariants.{No, Known}
-use Rattle.c_values.specs.Constants as constants
+use Rattle.c_type_rules.specs.Kinds.{decay}
+use Rattle.c_type_rules.specs.Layouts.{Extent, Measure, known, incomplete, too_large, measure}
+use Rattle.c_type_rules.specs.Verdicts.{Verdict, fine, unknown, wrong}
+use Rattle.c_constants.specs.declared.constants.Constant.{Constant}
+use Rattle.c_constants.specs.declared.constants.Constant.TheVariants.{No, Known}
+use Rattle.c_constants.specs.Constants as constants
 use Rattle.c_tree.specs.State.{State, complain}
 
 -- ---- rulings

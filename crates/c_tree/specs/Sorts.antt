@@ -1,10 +1,10 @@
 -- What is known of an expression.
 use Rattle.std.specs.Prelude.{ℕ, ◌-◌, Bool, true, false, Option, Some, None}
-use Rattle.atac_base.specs.declared.place.Pos.{Pos}
+use Rattle.c_base.specs.declared.place.Pos.{Pos}
 use Rattle.c_syntax.specs.Shape.{TypeOf, NoteShape, bare, typed, known, number, and, or, NodeShape, node, ExprShape, behind, TypeShape}
-use Rattle.c_values.specs.declared.constants.Constant.{Constant}
-use Rattle.c_values.specs.declared.constants.Constant.TheVariants.{No, Known}
-use Rattle.c_values.specs.Constants as constants
+use Rattle.c_constants.specs.declared.constants.Constant.{Constant}
+use Rattle.c_constants.specs.declared.constants.Constant.TheVariants.{No, Known}
+use Rattle.c_constants.specs.Constants as constants
 use Rattle.c_tree.specs.State.{State, is_clean}
 use Rattle.c_tree.specs.Rulings.{Ruled, of_kind, allowed_if}
 

@@ -1,14 +1,15 @@
 -- What the checker knows at a token, and how that changes.
 use Rattle.std.specs.Prelude.{ℕ, ℤ, ◌+◌, ◌*◌, ◌-◌, ◌^◌, ◌++◌, ◌&&◌, min, List, [], ◌∷◌, length, map, slice_get, nat_eq, nat_lt, bytes_eq, Bool, true, false, not, Option, Some, None, option_map, if◌then◌else◌}
 use Rattle.std.specs.Cmp.Lexicographic.{pointwise}
-use Rattle.atac_base.specs.declared.place.Pos.{Pos}
+use Rattle.c_base.specs.declared.place.Pos.{Pos}
 use Rattle.c_syntax.specs.declared.text.Text.{Text}
 use Rattle.c_syntax.specs.Shape.{TypeOf, int, nothing}
-use Rattle.c_kinds.specs.Kinds.{same_type}
-use Rattle.c_kinds.specs.Layouts.{Measure, incomplete}
+use Rattle.c_type_rules.specs.Kinds.{same_type}
+use Rattle.c_type_rules.specs.Layouts.{Measure, incomplete}
 use Rattle.c_scopes.specs.Rows.{Scope, Scoped}
 use Rattle.c_scopes.specs.Scoping.{declared, named}
-use Rattle.c_tree.specs.Tables.{FieldShape, StructShape, FunctionShape, VariableShape, TablesShape, changed_at, with_fields, with_definition}
+use Rattle.c_tables.specs.Rows.{row, fields_in, number_from}
+use Rattle.c_tables.specs.Tables.{FieldShape, StructShape, FunctionShape, VariableShape, TablesShape, changed_at, with_fields, with_definition}
 use Rattle.c_tree.specs.declared.meaning.Complaint.{Complaint}
 use Rattle.c_tree.specs.declared.meaning.Entity.{Entity}
 use Rattle.c_tree.specs.declared.meaning.Entity.TheVariants.{Variable, Function}
@@ -47,10 +48,6 @@ pub record State : Type 0 where
 
 -- ---- tokens and complaints
 
--- where nothing stands that could be complained of
-abbrev pub first_place : Pos
-first_place = record { line = 1; col = 1 }
-
 -- behind so many further tokens; numbers are kept up to the greatest of 32 bits
 abbrev pub steps : ℕ → State → State
 steps n s = record s { at = min (s.at + n) (2 ^ 32 - 1) }
@@ -73,14 +70,7 @@ demand false number token p s = complain number token p s
 abbrev pub is_clean : State → State → Bool
 is_clean before after = nat_eq (length before.complaints) (length after.complaints)
 
--- ---- rows, which are numbered from 1
-
-abbrev pub row : {R : Type 0} → List R → ℕ → Option R
-row rows n = if nat_eq n 0 then None else slice_get rows (n - 1)
-
-abbrev pub fields_in : Option StructShape → List FieldShape
-fields_in None = []
-fields_in (Some r) = r.fields
+-- ---- rows
 
 abbrev pub fields_of : ℕ → State → List FieldShape
 fields_of n s = fields_in (row s.tables.structures n)
@@ -97,18 +87,6 @@ same_types a b = pointwise same_type a b
 
 abbrev pub is_function : Text → TypeOf → List TypeOf → FunctionShape → Bool
 is_function x result params f = bytes_eq x f.name && (same_type result f.result && same_types params f.params)
-
--- the number of the first row for which the test holds, the first row having this number
-abbrev pub number_from : {R : Type 0} → (R → Bool) → ℕ → List R → Option ℕ
-number_from test n [] = None
-number_from test n (r ∷ rows) = if test r then Some n else number_from test (n + 1) rows
-
--- the first function of that name
-abbrev pub has_name : Text → FunctionShape → Bool
-has_name x f = bytes_eq x f.name
-
-abbrev pub first_named : Text → List FunctionShape → Option ℕ
-first_named x rows = number_from (has_name x) 1 rows
 
 abbrev pub function_number : Text → TypeOf → List TypeOf → List FunctionShape → Option ℕ
 function_number x result params rows = number_from (is_function x result params) 1 rows

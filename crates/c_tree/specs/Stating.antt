@@ -1,11 +1,11 @@
 -- How statements are typed (C89, 3.6), and function bodies.
 use Rattle.std.specs.Prelude.{ℕ, ℤ, ◌+◌, ◌*◌, List, [], ◌∷◌, length, Bool, true, false, not, ◌||◌, Option, Some, None, option_map}
-use Rattle.atac_base.specs.declared.place.Pos.{Pos}
-use Rattle.atac_base.specs.declared.place.IntKind.{IntKind}
+use Rattle.c_base.specs.declared.place.Pos.{Pos}
+use Rattle.c_base.specs.declared.place.IntKind.{IntKind}
 use Rattle.c_syntax.specs.declared.tree.ProbeMark.{ProbeMark}
 use Rattle.c_syntax.specs.Shape.{TypeOf, int, block, NodeShape, MaybeNode, no_node, one_node, LabelShape, case, default, StmtShape, stmt, FormShape, compound, simply, when, either, while, do_while, for, switch, break, continue, return, CompoundShape, braces, ItemShapes, no_items, more_items}
-use Rattle.c_kinds.specs.Verdicts.{truth_type, promoted_type, fits_type}
-use Rattle.c_values.specs.Constants as constants
+use Rattle.c_type_rules.specs.Verdicts.{truth_type, promoted_type, fits_type}
+use Rattle.c_constants.specs.Constants as constants
 use Rattle.c_tree.specs.State.{State, step, steps, complain, demand}
 use Rattle.c_tree.specs.Rulings.{Ruled, by, rule, kind_at, of_kind}
 use Rattle.c_tree.specs.Sorts.{Sort, TypedNode, null, pos_in}

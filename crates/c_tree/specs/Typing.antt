@@ -1,20 +1,21 @@
 -- How an expression is typed (C89, 3.3), with the types that it names and the structures and enumerations that they declare (3.5).
 use Rattle.std.specs.Prelude.{ℕ, ℤ, pos, ◌-◌, ◌++◌, List, [], ◌∷◌, Bool, true, false, Option, Some}
-use Rattle.atac_base.specs.declared.place.Pos.{Pos}
-use Rattle.atac_base.specs.declared.place.IntKind.TheVariants.{Int}
+use Rattle.c_base.specs.declared.place.Pos.{Pos}
+use Rattle.c_base.specs.declared.place.IntKind.TheVariants.{Int}
 use Rattle.c_syntax.specs.declared.text.Text.{Text}
 use Rattle.c_syntax.specs.declared.tree.UnaryOp.{UnaryOp}
 use Rattle.c_syntax.specs.declared.tree.StepOp.{StepOp}
 use Rattle.c_syntax.specs.declared.tree.StepOp.TheVariants as way
 use Rattle.c_syntax.specs.declared.tree.Named.{Named}
 use Rattle.c_syntax.specs.Shape.{Access, Step, up, down, Probing, TypeOf, int, structure, number, char, str, name, unary, before, size_of, and, or, comma, test, NodeShape, node, ExprShape, leaf, paren, call, prefix, size_of_type, cast, suffix, two, choose, probe, index, field, behind, simple, select, NodeShapes, no_nodes, more_nodes, MaybeNode, no_node, one_node, LengthShapes, no_lengths, more_lengths, TypeShape, type_name, SpecShapes, no_specs, more_specs, word, struct, enum, MaybeDecls, no_members, members, MaybeEnumers, no_rows, rows, EnumerShapes, no_enumers, more_enumers, decl, DeclShapes, no_decls, more_decls, declarator, DeclaratorShapes, no_declarators, more_declarators, arrays, function}
-use Rattle.c_values.specs.Constants as constants
-use Rattle.c_tree.specs.Tables.{FieldShape}
+use Rattle.c_constants.specs.Constants as constants
+use Rattle.c_tables.specs.Tables.{FieldShape}
 use Rattle.c_tree.specs.State.{State, steps, step, complain, demand, is_clean, field_type}
 use Rattle.c_tree.specs.Rulings.{by, kind_at, rule}
 use Rattle.c_tree.specs.Sorts.{Formed, formed, TypedNode, TypedType, noted, pos_in}
 use Rattle.c_tree.specs.Operators.{Given, given_at, typed_number, typed_char, typed_string, typed_name, called, typed_call, typed_paren, typed_unary, typed_step, hushed, heard, typed_size, typed_type_size, typed_cast, typed_infix, typed_choice, typed_index, typed_field, claim, typed_probe, typed_select}
-use Rattle.c_tree.specs.Parts.{Length, left_out, length_of, TypedNodes, no_more, one_more, TypedCases, no_cases, judged_constant, one_case, TypedLengths, no_more_lengths, judged_length, open_length, one_length, pointed, star_tokens, arrays_of, Spelled, TypedSpecs, TypedSpec, unspelled, with_word, with_tagged, static_fits, spelled_rule, more_spec, begun_at, opened, tag_tokens, closed, structure_kind, kind_if, within, outside, TypedDecls, TypedNames, is_free, text_of, name_pos, with_field, field_state, TypedRows, Valued, given_value, next_value, entity_of, declare, after, enumeration}
+use Rattle.c_tree.specs.Parts.{Length, left_out, length_of, TypedNodes, no_more, one_more, TypedCases, no_cases, judged_constant, one_case, TypedLengths, no_more_lengths, judged_length, open_length, one_length, pointed, star_tokens, arrays_of, Spelled, TypedSpecs, TypedSpec, unspelled, with_word, with_tagged, static_fits, spelled_rule, more_spec, begun_at, opened, tag_tokens, closed, structure_kind, kind_if, within, outside, TypedDecls, TypedNames, is_free, with_field, field_state, TypedRows, Valued, given_value, next_value, entity_of, declare, after, enumeration}
+use Rattle.c_tables.specs.Rows.{text_of, name_pos}
 
 -- the parenthesis before arguments, where none follows; otherwise it is the first one's
 abbrev pub opening : NodeShapes → ℕ
@@ -78,9 +79,10 @@ abbrev mutual
       let t = type_node a (steps 4 (claim u x s.at p s)) in
       formed (probe (simple u x) t.node) (typed_probe s.at p u t.sort t.state)
   type_form p o (probe (select x cs) a) s =
-      let t = type_cases [] cs (steps 3 (claim test x s.at p s)) in
+      let c = steps 3 (claim test x s.at p s) in
+      let t = type_cases [] cs c in
       let v = type_node a (step t.state) in
-      formed (probe (select x t.nodes) v.node) (typed_select s.at p t.values v.sort v.state)
+      formed (probe (select x t.nodes) v.node) (typed_select s.at p (is_clean c v.state) t.values v.sort v.state)
 
   -- arguments, each with the comma or parenthesis before it, behind those so far
   pub type_arguments : List Given → NodeShapes → State → TypedNodes
@@ -169,15 +171,15 @@ abbrev mutual
       let o = enumeration false t s in
       record { spec = enum t no_rows; kind = kind_if (is_clean s o) (Some (int Int)); state = steps (tag_tokens t) o }
   type_enum t (rows es) s =
-      let r = type_rows (Some (pos 0)) es (step (steps (tag_tokens t) (enumeration true t s))) in
+      let r = rows_types (Some (pos 0)) es (step (steps (tag_tokens t) (enumeration true t s))) in
       record { spec = enum t (rows r.rows); kind = kind_if (is_clean s r.state) (Some (int Int)); state = r.state }
 
   -- each enumerator with the comma or the brace behind it; the value of one that has none
-  pub type_rows : Option ℤ → EnumerShapes → State → TypedRows
-  type_rows next no_enumers s = record { rows = no_enumers; state = s }
-  type_rows next (more_enumers x v rest) s =
+  pub rows_types : Option ℤ → EnumerShapes → State → TypedRows
+  rows_types next no_enumers s = record { rows = no_enumers; state = s }
+  rows_types next (more_enumers x v rest) s =
       let r = type_value s.at x.pos next v (step s) in
-      let l = type_rows (after r.value) rest (step (declare s.at x.pos x.text (entity_of r.value) r.state)) in
+      let l = rows_types (after r.value) rest (step (declare s.at x.pos x.text (entity_of r.value) r.state)) in
       record { rows = more_enumers x r.node l.rows; state = l.state }
 
   -- the value of the enumerator that is that token
@@ -228,9 +230,10 @@ type_probe p u x a s =
 
 abbrev pub type_select : Pos → Text → NodeShapes → NodeShape → State → Formed
 type_select p x cs a s =
-    let t = type_cases [] cs (steps 3 (claim test x s.at p s)) in
+    let c = steps 3 (claim test x s.at p s) in
+    let t = type_cases [] cs c in
     let v = type_node a (step t.state) in
-    formed (probe (select x t.nodes) v.node) (typed_select s.at p t.values v.sort v.state)
+    formed (probe (select x t.nodes) v.node) (typed_select s.at p (is_clean c v.state) t.values v.sort v.state)
 
 abbrev pub type_paren : NodeShape → State → Formed
 type_paren a s =

@@ -1,23 +1,24 @@
 -- How a unit is typed (C89, 3.7), what is complained of in it, and which programs there are.
 use Rattle.std.specs.Prelude.{◌≡◌, ℕ, ◌+◌, ◌-◌, ◌*◌, ◌≤◌, All, Contains, List, [], ◌∷◌, ◌++◌, length, map, nat_eq, nat_lt, bytes_eq, Bool, true, false, is_some, Option, Some, None, ◌&&◌, ◌||◌, if◌then◌else◌}
-use Rattle.atac_base.specs.declared.place.Pos.{Pos}
-use Rattle.atac_base.specs.declared.place.IntKind.TheVariants.{Int}
+use Rattle.c_base.specs.declared.place.Pos.{Pos}
+use Rattle.c_base.specs.declared.place.IntKind.TheVariants.{Int}
 use Rattle.c_syntax.specs.declared.text.Text.{Text}
 use Rattle.c_syntax.specs.declared.tree.ProgramLine.{ProgramLine}
 use Rattle.c_syntax.specs.declared.tree.Named.{Named}
 use Rattle.c_syntax.specs.declared.tree.ProbeMark.{ProbeMark}
 use Rattle.c_syntax.specs.declared.tree.Star.{Star}
-use Rattle.c_syntax.specs.Shape.{TypeOf, int, SpecShapes, DeclaratorShape, declarator, arrays, function, ParamsShape, MaybeInit, CompoundShape, ExternalShape, defined, declared, UnitShape}
-use Rattle.c_tree.specs.Tables.{FunctionShape, TablesShape, with_definition}
+use Rattle.c_syntax.specs.Shape.{TypeOf, int, SpecShapes, no_specs, more_specs, DeclaratorShape, declarator, arrays, function, ParamsShape, MaybeInit, CompoundShape, ExternalShape, defined, declared, UnitShape}
+use Rattle.c_tables.specs.Tables.{FunctionShape, TablesShape, with_definition}
 use Rattle.c_tree.specs.declared.meaning.Complaint.{Complaint}
 use Rattle.c_tree.specs.declared.meaning.Entity.{Entity}
 use Rattle.c_tree.specs.declared.meaning.Entity.TheVariants as entity
-use Rattle.c_tree.specs.declared.meaning.Builtin.TheVariants.{GetChar, PutChar, Exit}
-use Rattle.c_tree.specs.Builtins.{builtin_name}
-use Rattle.c_tree.specs.State.{State, first_place, step, steps, complain, demand, is_function}
+use Rattle.c_tables.specs.declared.builtins.Builtin.TheVariants.{GetChar, PutChar, Exit}
+use Rattle.c_tables.specs.Builtins.{builtin_name}
+use Rattle.c_tree.specs.State.{State, step, steps, complain, demand, is_function}
+use Rattle.c_tables.specs.Rows.{first_place}
 use Rattle.c_tree.specs.Rulings.{kind_at, rule, by}
-use Rattle.c_kinds.specs.Verdicts.{result_type}
-use Rattle.c_values.specs.Probes.{digest_of}
+use Rattle.c_type_rules.specs.Verdicts.{result_type}
+use Rattle.c_constants.specs.Probes.{digest_of}
 use Rattle.c_tree.specs.Parts.{unspelled, spelled_rule, pointed, with_name}
 use Rattle.c_tree.specs.Typing.{type_specs}
 use Rattle.c_tree.specs.Declaring.{next_variable, with_variable, TypedFunction, type_function, type_decl, closed_scope, with_constants}
@@ -61,6 +62,11 @@ type_definition specs f k marks c =
     let t = type_compound (record { loop = false; breakable = false; result = k }) c (type_marks marks (begun_function f f.state)) in
     record { external = defined specs f.name marks t.compound; state = ended_function t.state }
 
+-- where specifiers begin
+abbrev pub specs_place : SpecShapes → Pos
+specs_place no_specs = first_place
+specs_place (more_specs p f rest) = p
+
 -- a definition of anything but a function stands in no unit
 abbrev pub type_external : ExternalShape → State → TypedExternal
 type_external (declared d) s =
@@ -69,7 +75,7 @@ type_external (declared d) s =
 type_external (defined specs (declarator stars x (function ps) i) marks c) s =
     let t = type_specs false specs unspelled s in
     let r = spelled_rule t.spelled in
-    let f = type_function true (kind_at r) stars x ps i (rule r s.at first_place t.state) in
+    let f = type_function true (kind_at r) stars x ps i (rule r s.at (specs_place specs) t.state) in
     type_definition t.specs f (kind_at (by 33 (result_type (pointed stars (kind_at r))))) marks c
 type_external (defined specs (declarator stars x (arrays ls) i) marks c) s =
     record { external = defined specs (declarator stars x (arrays ls) i) marks c; state = complain 33 s.at first_place s }

@@ -3,11 +3,6 @@
 
 pub mod complaints;
 pub mod meaning;
-pub mod numbers;
 pub mod program;
-pub mod tables;
 
 pub use c_syntax::{height, sentences, text, token, tree};
-
-#[cfg(test)]
-mod tests;

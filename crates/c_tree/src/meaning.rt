@@ -1,13 +1,6 @@
 //! What names stand for, and what is complained of.
-use atac_base::place::Pos;
-
-/// The functions that every program has (C89, 4.9.7.6, 4.9.7.9 and 4.10.4.3).
-#[derive(Clone, Copy, Debug, PartialEq, Eq)]
-pub enum Builtin {
-    GetChar,
-    PutChar,
-    Exit,
-}
+use c_base::place::Pos;
+use c_tables::builtins::Builtin;
 
 /// What an ordinary name stands for (C89, 3.1.2.1): a variable or a function, by its number; a parameter while its list
 /// is read, by its number in the list, counted from 1; a built-in function; an enumeration constant, by its value; or

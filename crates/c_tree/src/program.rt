@@ -3,12 +3,12 @@
 ghost use Rattle.std.specs.Prelude.{◌≡◌, option_map};
 ghost use Rattle.c_syntax.specs.View.{unit_shape};
 ghost use Rattle.c_tree.specs.Erased.{erased_unit};
-ghost use Rattle.c_tree.specs.Tables.{tables_shape};
+ghost use Rattle.c_tables.specs.Tables.{tables_shape};
 ghost use Rattle.c_tree.specs.Programs.{IsProgram, HoldsProgram, digest_in};
 
-use crate::tables::Tables;
 use crate::tree::Unit;
-use c_values::probes;
+use c_constants::probes;
+use c_tables::tables::Tables;
 
 /// A translation unit without complaint: each expression is noted with its type (C89, 3.3), and the tables hold the
 /// structures, functions, variables and strings that its types and notes name. Or such a unit with probes put in.

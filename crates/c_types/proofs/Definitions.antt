@@ -1,6 +1,6 @@
 -- Functions with bodies, typed in place.
 use Rattle.std.proofs.Common.{◌≡◌, ℕ, List, Option, true, refl, ap, ◌∙◌}
-use Rattle.c_kinds.specs.Verdicts.{result_type}
+use Rattle.c_type_rules.specs.Verdicts.{result_type}
 use Rattle.c_syntax.specs.declared.text.Text.{Text}
 use Rattle.c_syntax.specs.declared.tree.Named.{Named}
 use Rattle.c_syntax.specs.declared.tree.Star.{Star}

@@ -6,7 +6,7 @@ use Rattle.std.proofs.lemmas.Result.{on_ok_weaker}
 use Rattle.std.specs.declared.vec.Vec.{Vec}
 use Rattle.std.specs.declared.boxed.Box.{Box}
 use Rattle.std.specs.declared.alloc.Global.{Global}
-use Rattle.atac_base.specs.declared.place.Pos.{Pos}
+use Rattle.c_base.specs.declared.place.Pos.{Pos}
 use Rattle.c_syntax.specs.declared.tree.Node.{Node}
 use Rattle.c_syntax.specs.declared.tree.Stmt.{Stmt}
 use Rattle.c_syntax.specs.declared.tree.Item.{Item}
@@ -15,7 +15,8 @@ use Rattle.c_syntax.specs.declared.tree.StmtForm.TheVariants as form
 use Rattle.c_syntax.specs.Shape.{FormShape, while, do_while, switch}
 use Rattle.c_syntax.specs.View.{node_shape, stmt_shape, item_list, form_shape}
 use Rattle.c_syntax.proofs.Open.{switch_open}
-use Rattle.c_tree.specs.State.{State, first_place}
+use Rattle.c_tree.specs.State.{State}
+use Rattle.c_tables.specs.Rows.{first_place}
 use Rattle.c_tree.specs.Stating.{Surroundings, type_body}
 use Rattle.c_types.proofs.Weights.{form_weight, items_weight}
 

@@ -5,8 +5,8 @@ use Rattle.std.proofs.Math.ListN.{set}
 use Rattle.std.proofs.Math.Seq.{take-suc-set}
 use Rattle.std.proofs.lemmas.List.{drop-set-lt, map-append, drop_all, take_all, append-nil}
 use Rattle.c_checker.specs.Among.{is_fresh}
-use Rattle.atac_base.specs.declared.place.Pos.{Pos}
-use Rattle.atac_base.specs.declared.place.IntKind.{IntKind}
+use Rattle.c_base.specs.declared.place.Pos.{Pos}
+use Rattle.c_base.specs.declared.place.IntKind.{IntKind}
 use Rattle.c_arith.specs.Arith.{wrap}
 use Rattle.c_syntax.specs.Shape.{LabelShape, case, default}
 use Rattle.c_syntax.specs.declared.tree.Label.{Label}

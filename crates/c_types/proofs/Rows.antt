@@ -2,8 +2,8 @@
 use Rattle.std.specs.Prelude.{is_some}
 use Rattle.std.proofs.Common.{◌≡◌, ℕ, zero, suc, ◌+◌, ◌-◌, ◌≤◌, Bool, true, false, List, [], ◌∷◌, ◌++◌, length, map, take, drop, slice_get, Some, refl, sym, ap, arith, add-one}
 use Rattle.std.proofs.lemmas.List.{map-append}
-use Rattle.c_tree.specs.Tables.{FunctionShape, TablesShape, changed_at, with_definition}
-use Rattle.c_declarer.proofs.Rows.{none_changed}
+use Rattle.c_tables.specs.Tables.{FunctionShape, TablesShape, changed_at, with_definition}
+use Rattle.c_checker_parts.proofs.Rows.{none_changed}
 use Rattle.c_tree.specs.Units.{is_main, any_main}
 
 pub definition_stays : (n : ℕ) (params : List ℕ) (t : TablesShape) → length t.functions ≤ n - 1 → with_definition n params t ≡ t

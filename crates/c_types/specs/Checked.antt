@@ -1,14 +1,14 @@
 -- What checking a unit answers.
 use Rattle.std.specs.Prelude.{◌≡◌, ℕ, []}
-use Rattle.atac_base.specs.declared.place.Pos.{Pos}
+use Rattle.c_base.specs.declared.place.Pos.{Pos}
 use Rattle.c_syntax.specs.Shape.{UnitShape}
 use Rattle.c_syntax.specs.View.{unit_shape}
-use Rattle.c_tree.specs.Tables.{tables_shape}
+use Rattle.c_tables.specs.Tables.{tables_shape}
 use Rattle.c_tree.specs.Units.{typed_unit, complaints, IsFirst}
 use Rattle.c_tree.specs.declared.meaning.Complaint.{Complaint}
 use Rattle.c_tree.specs.declared.program.Program.{Program}
-use Rattle.c_types.specs.declared.check.TypeRefusal.{TypeRefusal}
-use Rattle.c_types.specs.declared.check.TypeRefusal.TheVariants.{At, NoMemory}
+use Rattle.c_types.specs.declared.checking.TypeRefusal.{TypeRefusal}
+use Rattle.c_types.specs.declared.checking.TypeRefusal.TheVariants.{At, NoMemory}
 
 -- the program of a unit without complaint: that unit with its notes, and its tables
 pub record IsChecked (u : UnitShape) (p : Program) : Type 0 where

@@ -4,14 +4,14 @@ use Rattle.c_syntax.specs.declared.text.Text.{Text}
 use Rattle.c_syntax.specs.declared.tree.ProbeMark.{ProbeMark}
 use Rattle.c_syntax.specs.Shape.{TypeOf, SpecShapes, CompoundShape, UnitShape}
 use Rattle.c_scopes.specs.Scoping.{entered}
-use Rattle.c_tree.specs.Tables.{with_definition}
-use Rattle.c_tree.specs.State.{State, first_place, demand}
+use Rattle.c_tables.specs.Tables.{with_definition}
+use Rattle.c_tree.specs.State.{State, demand}
 use Rattle.c_tree.specs.Rulings.{kind_at, rule}
 use Rattle.c_tree.specs.Parts.{TypedSpecs, unspelled, spelled_rule}
 use Rattle.c_tree.specs.Typing.{type_specs}
 use Rattle.c_tree.specs.Declaring.{next_variable, with_constants}
 use Rattle.c_tree.specs.Stating.{TypedCompound, type_marks, type_compound}
-use Rattle.c_tree.specs.Units.{with_variables, numbers_from, TypedUnit, any_main, type_externals, type_line}
+use Rattle.c_tree.specs.Units.{specs_place, with_variables, numbers_from, TypedUnit, any_main, type_externals, type_line}
 
 -- the function with that number, and with these parameters, has a body from here on
 abbrev pub begun : ℕ → List (Text × Option TypeOf) → State → State
@@ -44,4 +44,4 @@ abbrev pub kind_of_specs : SpecShapes → State → Option TypeOf
 kind_of_specs specs s = kind_at (spelled_rule (typed_specs specs s).spelled)
 
 abbrev pub behind_specs : SpecShapes → State → State
-behind_specs specs s = rule (spelled_rule (typed_specs specs s).spelled) s.at first_place (typed_specs specs s).state
+behind_specs specs s = rule (spelled_rule (typed_specs specs s).spelled) s.at (specs_place specs) (typed_specs specs s).state

@@ -2,9 +2,9 @@
 use Rattle.std.specs.Prelude.{◌≡◌, ℤ, List, map, Option, Some, None, option_map}
 use Rattle.std.specs.Ordering.{int_eq}
 use Rattle.indexmap.specs.IndexSet.{insert_key}
-use Rattle.atac_base.specs.declared.place.IntKind.{IntKind}
+use Rattle.c_base.specs.declared.place.IntKind.{IntKind}
 use Rattle.c_syntax.specs.Shape.{LabelShape, case, default}
-use Rattle.c_values.specs.Constants as constants
+use Rattle.c_constants.specs.Constants as constants
 use Rattle.c_tree.specs.State.{State, step, steps}
 use Rattle.c_tree.specs.Sorts.{pos_in}
 use Rattle.c_tree.specs.Operators.{is_among}

@@ -1,8 +1,8 @@
 // Expressions in statements, and the block probes before a statement (C89, 3.6).
 
 ghost use Rattle.std.specs.Prelude.{◌≡◌, OnOk, IfOk};
-ghost use Rattle.c_kinds.specs.Kinds.{type_in};
-ghost use Rattle.c_kinds.specs.Verdicts.{truth_type};
+ghost use Rattle.c_type_rules.specs.Kinds.{type_in};
+ghost use Rattle.c_type_rules.specs.Verdicts.{truth_type};
 ghost use Rattle.c_syntax.specs.View.{node_shape, maybe_node};
 ghost use Rattle.c_tree.specs.State.{step, steps};
 ghost use Rattle.c_tree.specs.Rulings.{by, kind_at, rule};
@@ -13,16 +13,16 @@ ghost use Rattle.c_checker.specs.RulingView.{ruled_of};
 ghost use Rattle.c_checker.specs.SortView.{sort_of};
 ghost use Rattle.c_types.specs.Stated.{for_first, for_test, for_last, switch_value, switch_begun};
 
-use atac_base::place::{NoMemory, Pos};
+use c_base::place::{NoMemory, Pos};
 use c_checker::checker::Checker;
 use c_checker::probes::Probing;
 use c_checker::ruling::{Ruling, by};
 use c_checker::sort::{Sort, copied};
-use c_kinds::choosing::truth;
-use c_kinds::single::promoted_value;
-use c_kinds::storing::fits;
 use c_syntax::tree::{CType, Node, ProbeMark};
-use c_typing::nodes::type_node;
+use c_type_rules::choosing::truth;
+use c_type_rules::single::promoted_value;
+use c_type_rules::storing::fits;
+use c_types_expr::nodes::type_node;
 use std::alloc::Global;
 
 /// Types an expression in place, if there is one.

@@ -1,30 +1,41 @@
 // External declarations (C89, 3.7).
 
 ghost use Rattle.std.specs.Prelude.{◌≡◌, map, OnOk, IfOk};
-ghost use Rattle.c_kinds.specs.Kinds.{type_in};
-ghost use Rattle.c_kinds.specs.Verdicts.{result_type};
+ghost use Rattle.c_type_rules.specs.Kinds.{type_in};
+ghost use Rattle.c_type_rules.specs.Verdicts.{result_type};
 ghost use Rattle.c_syntax.specs.Shape.{defined, declarator, function, no_init};
 ghost use Rattle.c_syntax.specs.View.{spec_list, declarator_shape, decl_form_shape, params_shape, compound_shape, external_shape};
 ghost use Rattle.c_tree.specs.Rulings.{by, kind_at};
 ghost use Rattle.c_tree.specs.Parts.{pointed};
-ghost use Rattle.c_tree.specs.Units.{type_external, type_externals};
+ghost use Rattle.c_tree.specs.Units.{specs_place, type_external, type_externals};
 ghost use Rattle.c_checker.specs.CheckerView.{state_of};
 ghost use Rattle.c_types.specs.Defined.{typed_specs, kind_of_specs, behind_specs};
 
 use crate::functions::type_definition;
-use atac_base::place::{NoMemory, Pos};
+use c_base::place::{NoMemory, Pos};
 use c_checker::checker::Checker;
 use c_checker::ruling::by;
 use c_checker::sort::copied;
-use c_declare::declarations::type_decl;
-use c_declare::functions::type_function;
-use c_declarer::lengths::pointed;
-use c_kinds::storing::result_kind;
+use c_checker_parts::lengths::pointed;
 use c_syntax::tree::{
     CType, Compound, DeclForm, Declarator, External, Named, Params, ProbeMark, Spec, Star,
 };
-use c_typing::specifiers::type_specs;
+use c_type_rules::storing::result_kind;
+use c_types_decl::declarations::type_decl;
+use c_types_decl::functions::type_function;
+use c_types_decl::names::first_place;
+use c_types_expr::specifiers::type_specs;
 use std::alloc::Global;
+
+// Where specifiers begin.
+fn specs_place(specs: &[Spec]) -> Pos
+    ensures { result ≡ specs_place (spec_list specs.now) }
+{
+    match specs.first() {
+        None => first_place(),
+        Some(spec) => spec.pos,
+    }
+}
 
 // Types the specifiers of a function in place: the type that they mean, where no complaint stands inside.
 fn type_heading(checker: &mut Checker, specs: &mut Vec<Spec>) -> Result<Option<CType>, NoMemory>
@@ -33,9 +44,9 @@ fn type_heading(checker: &mut Checker, specs: &mut Vec<Spec>) -> Result<Option<C
     ensures state { OnOk result (state_of checker.new ≡ behind_specs (spec_list specs.old.items) (state_of checker.old)) }
 {
     let token = checker.at;
+    let pos = specs_place(specs);
     let spelled = type_specs(checker, false, specs)?;
-    let first_place = Pos { line: 1, col: 1 };
-    let kind = checker.rule(spelled.ruling(), token, first_place)?;
+    let kind = checker.rule(spelled.ruling(), token, pos)?;
     Ok(kind)
 }
 
@@ -83,7 +94,7 @@ fn type_behind(
 {
     match form {
         DeclForm::Arrays(_) => {
-            checker.complain(33, checker.at, Pos { line: 1, col: 1 })?;
+            checker.complain(33, checker.at, first_place())?;
             Ok(())
         }
         DeclForm::Function(params) => {

@@ -1,30 +1,30 @@
 // Functions with bodies (C89, 3.7.1).
 
 ghost use Rattle.std.specs.Prelude.{◌≡◌, ◌+◌, map, OnOk, IfOk};
-ghost use Rattle.c_kinds.specs.Kinds.{type_in};
+ghost use Rattle.c_type_rules.specs.Kinds.{type_in};
 ghost use Rattle.c_scopes.specs.Scoping.{find_here};
 ghost use Rattle.c_syntax.specs.View.{compound_shape};
-ghost use Rattle.c_tree.specs.Tables.{tables_shape, with_definition};
+ghost use Rattle.c_tables.specs.Tables.{tables_shape, with_definition};
 ghost use Rattle.c_tree.specs.Declaring.{declared_again, with_constants};
 ghost use Rattle.c_tree.specs.Units.{variable_of, with_variables, numbers_from, ended_function};
 ghost use Rattle.c_checker.specs.CheckerView.{state_of};
-ghost use Rattle.c_declare.specs.GivenView.{parameter_of};
+ghost use Rattle.c_types_decl.specs.GivenView.{parameter_of};
 ghost use Rattle.c_types.specs.Defined.{begun, defined_body};
 
 use crate::expressions::type_marks;
 use crate::jumps::Jumps;
 use crate::statements::type_compound;
-use atac_base::place::NoMemory;
+use c_base::place::NoMemory;
 use c_checker::checker::Checker;
 use c_checker::sort::copied;
-use c_declare::functions::{Declared, Parameter};
-use c_declare::scopes::close_scope;
-use c_declare::variables::add_variable;
 use c_scopes::names::Names;
 use c_scopes::scopes::Scopes;
 use c_syntax::tree::{CType, Compound, ProbeMark};
+use c_tables::tables::{NumberList, Tables};
 use c_tree::meaning::Entity;
-use c_tree::tables::{NumberList, Tables};
+use c_types_decl::functions::{Declared, Parameter};
+use c_types_decl::scopes::close_scope;
+use c_types_decl::variables::add_variable;
 use std::alloc::Global;
 
 // A parameter is a variable of the body, if its name is new there.

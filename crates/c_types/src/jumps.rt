@@ -1,14 +1,14 @@
 // Where `break`, `continue` and `return` may stand (C89, 3.6.6).
 
 ghost use Rattle.std.specs.Prelude.{◌≡◌, true, false, OnOk};
-ghost use Rattle.c_kinds.specs.Kinds.{type_in};
+ghost use Rattle.c_type_rules.specs.Kinds.{type_in};
 ghost use Rattle.c_syntax.specs.View.{maybe_node};
 ghost use Rattle.c_tree.specs.State.{demand, step, steps};
 ghost use Rattle.c_tree.specs.Stating.{type_result};
 ghost use Rattle.c_checker.specs.CheckerView.{state_of};
 
 use crate::expressions::type_result;
-use atac_base::place::{NoMemory, Pos};
+use c_base::place::{NoMemory, Pos};
 use c_checker::checker::Checker;
 use c_syntax::tree::{CType, Node};
 

@@ -6,15 +6,15 @@ ghost use Rattle.c_syntax.specs.View.{node_shape, label_shape};
 ghost use Rattle.c_tree.specs.Operators.{wrapped};
 ghost use Rattle.c_tree.specs.Stating.{kind_of_switch, comes_twice, as_kind, with_value, case_state, case_labels, default_state, default_labels, type_labels};
 ghost use Rattle.c_checker.specs.CheckerView.{state_of};
-ghost use Rattle.c_kinds.specs.Kinds.{type_in};
+ghost use Rattle.c_type_rules.specs.Kinds.{type_in};
 ghost use Rattle.c_checker.specs.Among.{is_fresh};
 ghost use Rattle.c_types.specs.LabelsView.{with_inserted, labels_of, labels_in, Alike, BothAlike, LabelsAlike, type_label};
 
-use atac_base::place::{IntKind, NoMemory, Pos};
 use c_arith::convert;
+use c_base::place::{IntKind, NoMemory, Pos};
 use c_checker::checker::Checker;
 use c_syntax::tree::{CType, Label, Node};
-use c_typing::nodes::type_node;
+use c_types_expr::nodes::type_node;
 use indexmap::IndexSet;
 use std::alloc::Global;
 

@@ -1,11 +1,13 @@
 //! Statements, functions and units: what is typed, and what is complained of (C89, 3.6 and 3.7).
 #![tactic(auto)]
 
-pub mod check;
-pub mod expressions;
-pub mod externals;
-pub mod functions;
-pub mod jumps;
-pub mod labels;
-pub mod statements;
-pub mod units;
+mod checking;
+mod expressions;
+mod externals;
+mod functions;
+mod jumps;
+mod labels;
+mod statements;
+mod units;
+
+pub use checking::{TypeRefusal, check};

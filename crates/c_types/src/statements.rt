@@ -1,10 +1,10 @@
 // Statements (C89, 3.6).
 
 ghost use Rattle.std.specs.Prelude.{◌≡◌, map, OnOk, IfOk};
-ghost use Rattle.c_kinds.specs.Kinds.{type_in};
+ghost use Rattle.c_type_rules.specs.Kinds.{type_in};
 ghost use Rattle.c_syntax.specs.Shape.{compound, while, do_while, for, switch};
 ghost use Rattle.c_syntax.specs.View.{node_shape, maybe_node, label_shape, stmt_shape, form_shape, item_list, compound_shape};
-ghost use Rattle.c_tree.specs.State.{first_place};
+ghost use Rattle.c_tables.specs.Rows.{first_place};
 ghost use Rattle.c_tree.specs.Stating.{type_stmt, type_body, type_compound, type_items};
 ghost use Rattle.c_checker.specs.CheckerView.{state_of};
 ghost use Rattle.c_types.specs.Around.{around};
@@ -16,11 +16,11 @@ use crate::expressions::{
 };
 use crate::jumps::{Jumps, type_break, type_continue, type_return};
 use crate::labels::{Labels, type_labels};
-use atac_base::place::{NoMemory, Pos};
+use c_base::place::{NoMemory, Pos};
 use c_checker::checker::Checker;
-use c_declare::declarations::type_decls;
-use c_declare::scopes::{close_scope, open_scope};
 use c_syntax::tree::{CType, Compound, Item, Node, Stmt, StmtForm};
+use c_types_decl::declarations::type_decls;
+use c_types_decl::scopes::{close_scope, open_scope};
 
 /// Types a statement in place; `gives` is what its function gives, where that is known.
 #[cycle(statement)]

@@ -2,18 +2,18 @@
 
 ghost use Rattle.std.specs.Prelude.{◌≡◌, is_some, map, OnOk, IfOk};
 ghost use Rattle.c_syntax.specs.View.{unit_shape};
-ghost use Rattle.c_tree.specs.Tables.{tables_shape, function_shape};
+ghost use Rattle.c_tables.specs.Tables.{tables_shape, function_shape};
 ghost use Rattle.c_tree.specs.Units.{type_line, is_main, any_main};
 ghost use Rattle.c_checker.specs.CheckerView.{state_of};
 ghost use Rattle.c_types.specs.Defined.{unit_from};
 
 use crate::externals::type_externals;
-use atac_base::place::{IntKind, NoMemory};
+use c_base::place::{IntKind, NoMemory};
 use c_checker::checker::Checker;
-use c_kinds::kinds::same;
+use c_constants::probes::digest;
 use c_syntax::tree::{CType, ProgramLine, Unit};
-use c_tree::tables::{FunctionRow, Tables};
-use c_values::probes::digest;
+use c_tables::tables::{FunctionRow, Tables};
+use c_type_rules::kinds::same;
 use std::alloc::Global;
 
 // The program line, if there is one: word, parenthesis, string, parenthesis and semicolon.

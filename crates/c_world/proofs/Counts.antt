@@ -58,11 +58,3 @@ pub left_counts : (old emptied new : Naming) (c d : Cells) → Emptied old empti
 left_counts old emptied new c d e is = ap (λ (n : Naming). scope_counts n.calls) is ∙ ap scope_counts (sym (tail_in emptied.calls) ∙ ap (λ x. tail_of x) e.rest ∙ tail_in old.calls) ∙ left_in old.calls
 
 -- ---- what is known by the counts
-
-pub counted_active : (cs : List Call) (n : ℕ) (ns : List ℕ) → scope_counts cs ≡ n ∷ ns → IsActive cs
-counted_active [] n ns e = cc
-counted_active (c ∷ cs) n ns e = tt
-
-pub counted_scopes : (cs : List Call) (n : ℕ) (ns : List ℕ) → scope_counts cs ≡ n ∷ ns → length (scopes_in cs) ≡ n
-counted_scopes [] n ns e = cc
-counted_scopes (c ∷ cs) n ns e = cc

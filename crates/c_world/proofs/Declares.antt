@@ -1,11 +1,11 @@
 -- What the steps of a declaration are together: the declarator's meaning.
 use Rattle.std.proofs.Common.{◌≡◌, ℕ, suc, List, [], ◌∷◌, Option, Some, None, eq-eqb, Bool, true, false, refl, sym, ap}
 use Rattle.std.specs.Prelude.{nat_le, if◌then◌else◌, ◌-◌, replicate, Result, Ok, Err}
-use Rattle.atac_base.specs.declared.place.Pos.{Pos}
+use Rattle.c_base.specs.declared.place.Pos.{Pos}
 use Rattle.c_syntax.specs.declared.tree.Named.{Named}
 use Rattle.c_syntax.specs.declared.tree.Star.{Star}
 use Rattle.c_syntax.specs.Shape.{TypeOf, array, NodeShape, LengthShapes, MaybeInit, InitShapes, declarator, arrays, no_init, one_init, one, listed}
-use Rattle.c_tree.specs.Tables.{TablesShape}
+use Rattle.c_tables.specs.Tables.{TablesShape}
 use Rattle.c_meaning.specs.declared.end.Flow.{Flow}
 use Rattle.c_meaning.specs.declared.end.Flow.TheVariants.{Next}
 use Rattle.c_meaning.specs.State.{Bound, Call, State, found_in, found_among, found_within, or_else, with_bound, in_call, instance_of}
@@ -64,16 +64,4 @@ after_kind : (t : TablesShape) (k : Knot) (x : Option Named) (init : MaybeInit) 
 after_kind t k x init n s is None e = refl
 after_kind t k x init n s is (Some y) e = after_turns t k x init n y e s is (nat_le (cells t y) s.turns)
 
--- a declarator with an initialiser, or without one
-pub declares_then : (t : TablesShape) (k : Knot) (stars : List Star) (x : Option Named) (ls : LengthShapes) (init : MaybeInit) (n : ℕ) (s : State) → IsActive s.calls → declared_name t k (declarator stars x (arrays ls) init) (quiet n) s ≡ then_do (declared t (suc n) s) (λ f s. then_initialised t k x init n s)
-declares_then t k stars x ls init n s is = after_kind t k x init n s is (variable_kind t (suc n)) refl
-
 -- ---- what the initialiser of an object does
-
--- in braces
-pub list_initialised : (t : TablesShape) (k : Knot) (x : Option Named) (p : Pos) (items : InitShapes) (last : Bool) (n : ℕ) (s : State) → then_initialised t k x (one_init (listed p items last)) n s ≡ filled_object t (suc n) x (listed p items last) (past_name (quiet n)) s
-list_initialised t k x p items last n s = refl
-
--- one that a string or a value gives to an array
-pub array_initialised : (t : TablesShape) (k : Knot) (x : Option Named) (a : NodeShape) (n : ℕ) (e : TypeOf) (m : ℕ) (s : State) → variable_kind t (suc n) ≡ Some (array e m) → then_initialised t k x (one_init (one a)) n s ≡ filled_object t (suc n) x (one a) (past_name (quiet n)) s
-array_initialised t k x a n e m s kind = rw kind refl

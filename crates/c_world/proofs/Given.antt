@@ -12,7 +12,7 @@ use Rattle.c_syntax.specs.Shape.{DeclShape, DeclShapes, more_decls, decl, DeclFo
 use Rattle.c_syntax.specs.View.{spec_list, decl_form_shape, maybe_init, lengths_list, params_shape, param_shape, param_list}
 use Rattle.c_syntax.proofs.Open.{param_open, params_open, arrays_open}
 use Rattle.c_store.specs.declared.value.Value.{Value}
-use Rattle.c_tree.specs.Tables.{TablesShape}
+use Rattle.c_tables.specs.Tables.{TablesShape}
 use Rattle.c_meaning.specs.declared.end.Flow.{Flow}
 use Rattle.c_meaning.specs.State.{State}
 use Rattle.c_meaning.specs.Results.{Got, Gives, then_do, present}
@@ -33,16 +33,6 @@ given_at t p w n m v s r e next made =
     then_same (present (variable_kind t (suc n)) s) _ _ (λ k s. sym (then_then (make t k s) (λ j s. Gives j (bind (suc n) j s)) (λ j s. scalar_written (out-Param p).name.name (quiet 0) j v s))) ∙
     sym (then_then (present (variable_kind t (suc n)) s) (λ k s. placed (suc n) (cells t k) s) (λ j s. scalar_written (out-Param p).name.name (quiet 0) j v s)) ∙
     ap (λ r. then_do r (λ j s. scalar_written (out-Param p).name.name (quiet 0) j v s)) (ap (λ n. made_variable t n s) (sym next) ∙ made)
-
-pub one_variable : (p : Param) (v : Vec (Option Node) Global) → (out-Param p).name.form ≡ Arrays v → decl_variables (param_shape p) ≡ 1
-one_variable p v e = ap decl_variables (shape_open p v e)
-
--- the first parameter of a list, and the others
-pub given_first : (t : TablesShape) (d : DeclShape) (rest : DeclShapes) (n m : ℕ) (v : Value) (vs : List Value) (s : State) (r : Got Flow) → decl_variables d ≡ 1 → m ≡ n + 1 → given_one t d n v s ≡ r → given t (more_decls d rest) (quiet n) (v ∷ vs) s ≡ then_do r (λ f. given t rest (quiet m) vs)
-given_first t d rest n m v vs s r one next e =
-    sym (then_then (present (variable_kind t (suc n)) s) (λ k s. given_variable t d (quiet n) v k s) (λ f. given t rest (quiet (n + decl_variables d)) vs)) ∙
-    ap (λ r. then_do r (λ f. given t rest (quiet (n + decl_variables d)) vs)) e ∙
-    ap (λ k. then_do r (λ f. given t rest (quiet k) vs)) (ap (λ k. n + k) one ∙ sym next)
 
 pub given_list : (t : TablesShape) (f : Params) (v : Vec Param Global) (xs : List Param) (n : ℕ) (vs : List Value) (s : State) (r : Got Flow) → f ≡ ps.List v → xs ≡ v.items → given t (param_list xs) (quiet n) vs s ≡ r → given_params t (params_shape f) (quiet n) vs s ≡ r
 given_list t f v xs n vs s r e same is =

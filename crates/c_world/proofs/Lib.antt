@@ -4,7 +4,6 @@ pub mod Counts
 pub mod Made
 pub mod Written
 pub mod Marked
-pub mod Telling
 pub mod Given
 pub mod Literals
 pub mod Declares

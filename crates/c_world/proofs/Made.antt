@@ -2,7 +2,7 @@
 use Rattle.std.proofs.Common.{◌≡◌, ℕ, suc, ◌+◌, ◌≤◌, List, [], ◌∷◌, ◌++◌, length, Option, Some, Result, Ok, Err, refl, sym, ap, ◌∙◌, subst, arith, eq-eqb, nat_eq, nat_le, if◌then◌else◌, Bool, true, false, OnOk, OnErr}
 use Rattle.std.specs.Prelude.{IsSome}
 use Rattle.std.proofs.lemmas.Bool.{false≢true}
-use Rattle.atac_base.specs.declared.place.NoMemory.{NoMemory}
+use Rattle.c_base.specs.declared.place.NoMemory.{NoMemory}
 use Rattle.c_store.specs.declared.value.Value.{Value}
 use Rattle.c_store.specs.declared.value.MakeErr.{MakeErr}
 use Rattle.c_store.specs.declared.value.MakeErr.TheVariants.{Room}

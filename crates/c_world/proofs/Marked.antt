@@ -1,9 +1,9 @@
 -- What is written into the cells of a declared object, and told of the probe round its name.
 use Rattle.std.proofs.Common.{◌≡◌, ℕ, List, [], ◌∷◌, Option, Some, None, Result, Ok, Err, refl, sym, ap, ◌∙◌}
-use Rattle.atac_base.specs.declared.probes.Event.{Event}
+use Rattle.c_events.specs.declared.events.Event.{Event}
 use Rattle.c_syntax.specs.declared.tree.Named.{Named}
 use Rattle.c_syntax.specs.declared.tree.ProbeMark.{ProbeMark}
-use Rattle.c_values.specs.Probes.{probe_number_of}
+use Rattle.c_constants.specs.Probes.{probe_number_of}
 use Rattle.c_store.specs.declared.value.Value.{Value}
 use Rattle.c_store.specs.declared.value.Pointer.{Pointer}
 use Rattle.c_store.specs.declared.value.Fault.{Fault}

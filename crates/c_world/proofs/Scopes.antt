@@ -66,10 +66,6 @@ with_length b (c ∷ cs) h = with_length_of b c.scopes h
 with_living : (old now : List Call) (d : Cells) (v j : ℕ) → now ≡ in_call (with_bound (record { variable = v; instance = j })) old → IsActive old → (above : ℕ) → Living above (call_instances now) d → Living above (j ∷ call_instances old) d
 with_living old now d v j e is above l = subst (λ x. Living above x d) (ap call_instances e ∙ with_instances v j old is) l
 
--- the last binding's instance lives
-pub last_lives : (now new : Naming) (d : Cells) (j above : ℕ) → Undone (Some j) now new → Living above (call_instances now.calls) d → IsLive j d
-last_lives now new d j above u l = (with_living new.calls now.calls d u.0 j (ap (λ (n : Naming). n.calls) u.1) u.2 above l).1.0
-
 after_living : (above j : ℕ) (js : List ℕ) (d : Cells) → Living above (j ∷ js) d → Living above js (ended d j)
 after_living above j js d l = lower j above js (ended d j) (omega (arith, l.0)) (still_living j j js d (omega arith) l.1.1)
 

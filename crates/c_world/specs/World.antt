@@ -1,7 +1,7 @@
 -- A world as a state of the definition, in which nothing is observed, and so much was told before what is pending.
 use Rattle.std.specs.Prelude.{◌≡◌, ◌++◌, List, [], Option, Some, None}
-use Rattle.atac_base.specs.declared.probes.Event.{Event}
-use Rattle.c_tree.specs.Tables.{TablesShape, tables_shape}
+use Rattle.c_events.specs.declared.events.Event.{Event}
+use Rattle.c_tables.specs.Tables.{TablesShape, tables_shape}
 use Rattle.c_meaning.specs.declared.end.Stop.{Stop}
 use Rattle.c_meaning.specs.declared.end.Flow.{Flow}
 use Rattle.c_meaning.specs.declared.end.Flow.TheVariants.{Next}

@@ -1,3 +1,5 @@
+//! What the steps of a run answer.
+
 use c_meaning::end::Stop;
 
 /// The instance that was made, or why the run stops.

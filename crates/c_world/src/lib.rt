@@ -1,7 +1,7 @@
 //! The state of a running program, with the steps that are no expression's.
 #![tactic(auto)]
 
-pub mod answers;
-pub mod names;
+mod answers;
+mod names;
 pub mod places;
 pub mod world;

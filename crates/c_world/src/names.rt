@@ -1,10 +1,12 @@
+//! What names stand for in a run (C89, 3.1.2.1).
+
 ghost use Rattle.std.specs.Prelude.{◌≡◌, ◌<◌, List, length, get_or, reverse, OnOk};
 ghost use Rattle.c_meaning.specs.State.{function_in};
 ghost use Rattle.c_world.specs.declared.names.Entry.{Entry};
 ghost use Rattle.c_world.specs.Names.{calls_of, called, bound_in, nowhere, Sound};
 
-use atac_base::place::NoMemory;
-use c_initials::filing::Filing;
+use c_base::place::NoMemory;
+use c_compute::filing::Filing;
 use std::alloc::Global;
 use std::marker::Model;
 

@@ -1,19 +1,22 @@
+//! Pointers to instances and to their cells.
+
 ghost use Rattle.std.specs.Prelude.{◌≡◌, ℕ, IfOk};
 ghost use Rattle.c_syntax.specs.View.{type_of};
-ghost use Rattle.c_tree.specs.Tables.{tables_shape};
+ghost use Rattle.c_tables.specs.Tables.{tables_shape};
 ghost use Rattle.c_meaning.specs.State.{State};
 ghost use Rattle.c_meaning.specs.Layout.{cells};
 ghost use Rattle.c_meaning.specs.Firsts.{cell_at};
 ghost use Rattle.c_meaning.specs.Places.{whole, first_cell, next_cell, object_at, has_part};
-ghost use Rattle.c_compute.specs.Sizes.{kept};
+ghost use Rattle.c_base.specs.Kept.{kept};
 ghost use Rattle.c_world.specs.Steps.{found};
 
-use atac_base::place::{Cell, NoMemory};
+use c_base::place::NoMemory;
 use c_compute::layout::cells;
+use c_events::events::Cell;
 use c_meaning::end::Stop;
 use c_store::value::{Fault, Pointer};
 use c_syntax::tree::CType;
-use c_tree::tables::Tables;
+use c_tables::tables::Tables;
 
 /// A pointer to the whole of an instance of so many cells.
 #[inline(always)]

@@ -1,7 +1,10 @@
+//! The state of a run.
+
 ghost use Rattle.std.specs.Prelude.{◌≡◌, ◌≤◌, suc};
 ghost use Rattle.c_meaning.specs.State.{activation_in};
-ghost use Rattle.c_tree.specs.Tables.{tables_shape};
-ghost use Rattle.c_routines.specs.Routines.{source_of, IsRouted};
+ghost use Rattle.c_tables.specs.Tables.{tables_shape};
+ghost use Rattle.c_plan.specs.Routines.{IsRouted};
+ghost use Rattle.c_meaning.specs.Sources.{source_of};
 ghost use Rattle.c_compute.specs.Sizes.{IsMeasured};
 ghost use Rattle.c_world.specs.Lives.{Living, Living-prop, call_instances};
 
@@ -17,8 +20,8 @@ mod telling;
 mod writing;
 
 use crate::names::Names;
-use atac_base::probes::Event;
-use c_routines::routines::Routines;
+use c_events::events::Event;
+use c_plan::routines::Routines;
 use c_store::store::Store;
 use c_syntax::text::Text;
 use c_tree::program::Program;

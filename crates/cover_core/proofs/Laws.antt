@@ -1,8 +1,8 @@
 -- The test and the positions say the same.
 use Rattle.std.proofs.Common.{◌≡◌, ◌≢◌, ℕ, zero, suc, List, [], ◌∷◌, ◌++◌, Some, Bool, true, false, refl, sym, ap, ◌∙◌, subst, arith}
 use Rattle.std.specs.Prelude.{IsTrue, ◌↔◌, ◌||◌, nat_eq, slice_get}
-use Rattle.atac_base.specs.declared.probes.Event.{Event}
-use Rattle.atac_base.specs.declared.probes.Event.TheVariants as event
+use Rattle.c_events.specs.declared.events.Event.{Event}
+use Rattle.c_events.specs.declared.events.Event.TheVariants as event
 use Rattle.atac_base.specs.declared.facts.Fact.{Fact}
 use Rattle.atac_base.specs.declared.facts.Fact.TheVariants as fact
 use Rattle.atac_base.specs.Facts.{holds}

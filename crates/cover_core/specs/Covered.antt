@@ -1,7 +1,7 @@
 -- What a list of events covers.
 use Rattle.std.specs.Prelude.{◌≡◌, ℕ, Bool, false, ◌||◌, nat_eq, List, [], ◌∷◌, slice_get, Some}
-use Rattle.atac_base.specs.declared.probes.Event.{Event}
-use Rattle.atac_base.specs.declared.probes.Event.TheVariants as event
+use Rattle.c_events.specs.declared.events.Event.{Event}
+use Rattle.c_events.specs.declared.events.Event.TheVariants as event
 use Rattle.atac_base.specs.Facts.{holds}
 use Rattle.atac_base.specs.declared.facts.Fact.TheVariants as fact
 

@@ -1,13 +1,16 @@
+//! The collector of a run's facts.
+
 ghost use Rattle.std.specs.Prelude.{◌≡◌, ℕ, List, [], ◌∷◌, ◌++◌, OnOk, OnErr};
-ghost use Rattle.atac_base.specs.declared.probes.Event.{Event};
+ghost use Rattle.c_events.specs.declared.events.Event.{Event};
 ghost use Rattle.atac_base.specs.declared.facts.Fact.TheVariants as fact;
 ghost use Rattle.atac_base.specs.Facts.{holds};
 ghost use Rattle.cover_core.specs.Covered.{covers, Marks};
-ghost use Rattle.atac_base.specs.declared.probes.Event.TheVariants as event;
+ghost use Rattle.c_events.specs.declared.events.Event.TheVariants as event;
 
 use atac_base::facts::{Fact, Facts};
-use atac_base::place::NoMemory;
-use atac_base::probes::{Event, Probes};
+use atac_base::probes::Probes;
+use c_base::place::NoMemory;
+use c_events::events::Event;
 use std::alloc::Global;
 
 /// Adds a block, where it isn't there yet.

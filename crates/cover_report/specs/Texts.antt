@@ -1,7 +1,7 @@
 -- The text of a report: a line for each item, in the order of their numbers, and the totals.
 use Rattle.std.specs.Prelude.{ℕ, suc, ◌+◌, Bool, true, false, List, [], ◌∷◌, ◌++◌, length, codes}
 use Rattle.std.specs.Fmt.{decimal}
-use Rattle.atac_base.specs.declared.place.Pos.{Pos}
+use Rattle.c_base.specs.declared.place.Pos.{Pos}
 use Rattle.atac_base.specs.declared.facts.Fact.TheVariants.{Block}
 use Rattle.atac_base.specs.Items.{ItemLists}
 use Rattle.atac_base.specs.Facts.{holds}

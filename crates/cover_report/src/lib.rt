@@ -1,4 +1,8 @@
-//! The texts of reports.
+//! The texts of lists and reports.
 #![tactic(auto)]
 
+pub mod lines;
+pub mod listing;
 pub mod report;
+
+pub use listing::list_text;

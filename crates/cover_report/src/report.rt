@@ -1,9 +1,11 @@
+//! The report, line by line.
+
 ghost use Rattle.std.specs.Prelude.{◌≡◌, ◌++◌, ◌+◌, ◌≤◌, ◌<◌, ◌^◌, length, string_bytes, OnOk, IfOk};
 ghost use Rattle.cover_report.specs.Texts.{covered_text, block_line, block_lines, one_if, blocks_covered, total_line, totals_text, report_text, known};
 
 use atac_base::facts::{Fact, Facts};
 use atac_base::items::Items;
-use atac_base::place::{NoMemory, Pos};
+use c_base::place::{NoMemory, Pos};
 use std::alloc::{AllocError, Global};
 use std::fmt::Write;
 
@@ -37,7 +39,7 @@ fn put_total(text: &mut String, kind: &str, covered: u32, all: u32) -> Result<()
 }
 
 /// Appends the lines of the blocks, and counts those that are covered.
-#[tactic(auto, using(crate::proofs::Lines::next_lines, crate::proofs::Lines::next_count, crate::proofs::Lines::all_lines, crate::proofs::Lines::all_count))]
+#[tactic(auto, using(crate::proofs::BlockLines::next_lines, crate::proofs::BlockLines::next_count, crate::proofs::BlockLines::all_lines, crate::proofs::BlockLines::all_count))]
 fn put_blocks(text: &mut String, items: &Items, facts: &Facts) -> Result<u32, AllocError>
     ensures lines { OnOk result (string_bytes text.new ≡ string_bytes text.old ++ block_lines 0 items.now.blocks (known facts.now)) }
     ensures count { IfOk result (λ c. c ≡ blocks_covered 0 items.now.blocks (known facts.now)) }

@@ -1,7 +1,1 @@
-pub mod Marks
-pub mod ProbedExpressions
-pub mod ProbedStatements
-pub mod Instrumented
-pub mod Fitting
-pub mod Simulation
-pub mod Owning
+pub mod Defined

@@ -1,2 +1,12 @@
-//! Programs that log what they do: a program with its probes, and that it does what the program does without them.
+//! A checked program with its probes put in: `instrument`.
 #![tactic(auto)]
+
+mod build;
+mod declarations;
+mod defining;
+mod program;
+mod statements;
+mod tables;
+mod unit;
+
+pub use program::instrument;

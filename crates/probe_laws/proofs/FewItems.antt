@@ -2,19 +2,19 @@
 use Rattle.std.proofs.Common.{◌≡◌, ℕ, ◌+◌, ◌≤◌, Bool, true, false, nat_lt, List, [], ◌∷◌, Option, Some, None, refl, arith, if◌then◌else◌}
 use Rattle.std.proofs.lemmas.Bool.{or_parts}
 use Rattle.std.proofs.lemmas.Bool.Decides.{nat_tests}
-use Rattle.atac_base.specs.declared.place.Pos.{Pos}
-use Rattle.c_tree.specs.Tables.{StructShape}
-use Rattle.c_items.specs.Items.{Item, block, decision, def, used}
-use Rattle.c_items.specs.Sound.{decision_count}
-use Rattle.c_items.specs.Units.{items_of, no_items}
-use Rattle.c_marks.specs.Marked.{unit_mark}
+use Rattle.c_base.specs.declared.place.Pos.{Pos}
+use Rattle.c_tables.specs.Tables.{StructShape}
+use Rattle.c_walk.specs.Items.{Item, block, decision, def, used}
+use Rattle.c_walk.specs.Sound.{decision_count}
+use Rattle.c_walk.specs.Units.{items_of, no_items}
+use Rattle.c_sites_probes.specs.Marked.{unit_mark}
 use Rattle.c_meaning.specs.Calls.{Source}
-use Rattle.c_meaning.specs.Firsts.{block_count, def_count, use_count}
+use Rattle.c_walk.specs.Counted.{block_count, def_count, use_count}
 use Rattle.c_sites.specs.declared.limits.Counts.{Counts}
 use Rattle.c_sites.specs.Limits.{no_counts, with_one, too_many, place_of, excess}
 use Rattle.c_sites.specs.Refused.{refusal_at, refusal}
-use Rattle.probe_in.specs.Fitting.{HasFewItems}
-use Rattle.probe_in.specs.Simulation.{all_walked, IsPlain}
+use Rattle.probe_rules.specs.Fitting.{HasFewItems}
+use Rattle.probe_rules.specs.Simulation.{all_walked, IsPlain}
 use Rattle.probe_laws.proofs.Counted.{externals_walked}
 
 -- so many before, and these behind them

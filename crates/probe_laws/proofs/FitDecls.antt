@@ -1,35 +1,36 @@
 -- Plain declarations in which nothing is complained of are fit, and names are known behind them as before them.
 use Rattle.std.proofs.Common.{◌≡◌, ℕ, inl, List, [], ◌∷◌, length, Bool, true, false, Option, Some, None, refl, arith}
 use Rattle.std.specs.Prelude.{◌||◌, nat_eq, nat_le, option_map, if◌then◌else◌}
-use Rattle.atac_base.specs.declared.place.Pos.{Pos}
-use Rattle.atac_base.specs.declared.place.IntKind.TheVariants.{Char}
+use Rattle.c_base.specs.declared.place.Pos.{Pos}
+use Rattle.c_base.specs.declared.place.IntKind.TheVariants.{Char}
 use Rattle.c_syntax.specs.declared.text.Text.{Text}
 use Rattle.c_syntax.specs.declared.tree.Named.{Named}
 use Rattle.c_syntax.specs.declared.tree.Star.{Star}
 use Rattle.c_syntax.specs.declared.tree.ProbeMark.{ProbeMark}
 use Rattle.c_syntax.specs.Shape.{TypeOf, int, pointer, def, str, NodeShape, node, ExprShape, leaf, LengthShapes, SpecShapes, DeclShape, decl, DeclShapes, no_decls, more_decls, DeclaratorShape, declarator, DeclaratorShapes, no_declarators, more_declarators, arrays, function, ParamsShape, empty, void, params, MaybeInit, no_init, one_init, InitShape, one, listed, InitShapes, no_inits, more_inits}
 use Rattle.c_syntax.specs.Shaped.{Shaped, SomeSpecs, ShapedLengths, in_names, name_fits, ShapedInit, ShapedInits, ShapedInitOf, ShapedDecl, ShapedDecls, ShapedDeclarator, ShapedDeclarators, ShapedParams, ShapedParamList}
-use Rattle.c_kinds.specs.Layouts.{Measure}
-use Rattle.c_kinds.specs.Verdicts.{parameter_type, result_type}
+use Rattle.c_type_rules.specs.Layouts.{Measure, known, incomplete, too_large, measure}
+use Rattle.c_type_rules.specs.Verdicts.{parameter_type, result_type}
 use Rattle.c_scopes.specs.Scoping.{find_here}
 use Rattle.c_tree.specs.declared.meaning.Entity.{Entity}
 use Rattle.c_tree.specs.declared.meaning.Entity.TheVariants as entity
-use Rattle.c_tree.specs.declared.meaning.Builtin.TheVariants.{GetChar, PutChar, Exit}
-use Rattle.c_tree.specs.State.{State, first_place, step, steps, mention}
-use Rattle.c_tree.specs.Rulings.{Ruled, allowed, unsettled, refused, by, kind_at, rule, of_kind, allowed_if}
+use Rattle.c_tables.specs.declared.builtins.Builtin.TheVariants.{GetChar, PutChar, Exit}
+use Rattle.c_tree.specs.State.{State, step, steps, mention}
+use Rattle.c_tables.specs.Rows.{first_place, text_of, name_pos}
+use Rattle.c_tree.specs.Rulings.{Ruled, allowed, unsettled, refused, by, then_rule, kind_at, rule, of_kind, allowed_if}
 use Rattle.c_tree.specs.Sorts.{pos_in}
 use Rattle.c_tree.specs.Operators.{claim, hushed, heard}
-use Rattle.c_tree.specs.Parts.{Length, counted, left_out, unclear, unspelled, spelled_rule, star_tokens, pointed, arrays_of, text_of, name_pos}
+use Rattle.c_tree.specs.Parts.{Length, counted, left_out, unclear, unspelled, spelled_rule, star_tokens, pointed, arrays_of}
 use Rattle.c_tree.specs.Typing.{type_node, type_specs, type_lengths}
 use Rattle.c_tree.specs.Initialisers.{length_in, length_in_form, lengths_with, form_in, chars_of, filled, constant_init, fits, one_init_of, list_rule, slots, Slots, slot, slot_rule, further, init_pos, type_init, type_inits}
-use Rattle.c_tree.specs.Declaring.{name_tokens, claim_mark, claim_name, token_of_name, with_variable, variable_at, declare_variable, any_unclear, any_left_out, with_lengths, room_rule, variable_rule, has_init, type_maybe_init, type_variable, with_parameter, parameter_at, declare_parameter, element_lengths, scalar_rule, parameter_rule, name_demand, type_param, type_param_list, type_params, opened_scope, closed_params, all_kinds, signature_of, Signature, is_builtin, function_entity, function_at, declare_function, type_function, type_declarator, type_declarators, none_declared, semicolon, type_decl, type_decls}
-use Rattle.c_marks.specs.Marked.{first, name_mark, lengths_mark, specs_mark, maybe_init_mark, init_mark, declarator_mark, declarators_mark, decl_mark, decls_mark}
-use Rattle.probe_in.specs.Fitting.{IsNamed, IsFitInit, IsFitVariable, IsFitDeclarator, AreFitDeclarators, IsFitDecl, AreFitDecls, IsDefined, AreDefined, IsDefining, AreDefining, AreFitParams}
-use Rattle.c_items.specs.declared.around.Taken.TheVariants.{Read}
-use Rattle.probe_in.proofs.ReadyUnits.{none_first, none_second}
-use Rattle.probe_in.proofs.Grows.{rule_grows, lengths_grow}
-use Rattle.probe_in.proofs.GrowsUnits.{name_grows, inits_grow, maybe_init_grows, variable_at_grows, parameter_grows, name_demand_grows, list_grows, declared_grows, closed_params_grows, declarators_grow, decls_grow}
-use Rattle.probe_laws.proofs.Settled.{IsThere, IsClean, Settled, mended, type_there, by_told, of_kind_settled, whole_settled, parameter_told, result_told}
+use Rattle.c_tree.specs.Declaring.{name_tokens, claim_mark, claim_name, token_of_name, with_variable, variable_at, declare_variable, any_unclear, any_left_out, with_lengths, room_rule, variable_rule, has_init, type_maybe_init, type_variable, with_parameter, parameter_at, declare_parameter, by_element, element_pointer, element_lengths, scalar_rule, parameter_rule, name_demand, type_param, type_param_list, type_params, opened_scope, closed_params, all_kinds, signature_of, Signature, is_builtin, function_entity, function_at, declare_function, type_function, type_declarator, type_declarators, none_declared, semicolon, type_decl, type_decls}
+use Rattle.c_sites_probes.specs.Marked.{first, name_mark, lengths_mark, specs_mark, maybe_init_mark, init_mark, declarator_mark, declarators_mark, decl_mark, decls_mark}
+use Rattle.probe_rules.specs.Fitting.{IsNamed, IsFitInit, IsFitVariable, IsFitDeclarator, AreFitDeclarators, IsFitDecl, AreFitDecls, IsDefined, AreDefined, IsDefining, AreDefining, AreFitParams}
+use Rattle.c_walk.specs.declared.around.Taken.TheVariants.{Read}
+use Rattle.probe_rules.proofs.ReadyUnits.{none_first, none_second}
+use Rattle.probe_rules.proofs.Grows.{rule_grows, lengths_grow}
+use Rattle.probe_rules.proofs.GrowsUnits.{name_grows, inits_grow, maybe_init_grows, variable_at_grows, parameter_grows, name_demand_grows, list_grows, declared_grows, closed_params_grows, declarators_grow, decls_grow}
+use Rattle.probe_laws.proofs.Settled.{IsThere, IsClean, Settled, then_settled, mended, type_there, by_told, of_kind_settled, whole_settled, parameter_told, result_told}
 use Rattle.probe_laws.proofs.Rules.{back}
 use Rattle.probe_laws.proofs.Known.{IsRow, IsSure, Knows, Goes, declared_holds, entered_holds, left_holds, stays, ◌▹◌, rule_goes, demand_goes, mention_goes}
 use Rattle.probe_laws.proofs.KnownParts.{claim_goes, IsClear, AreClear, arrays_there, pointed_there, map_there, spelled_settled}
@@ -133,15 +134,19 @@ lengths_settled false false k e h = of_kind_settled k allowed (h refl) (λ t. tt
 with_settled : (ls : List Length) (t : TypeOf) → AreClear true ls → Settled (with_lengths ls t)
 with_settled ls t h = lengths_settled (any_unclear ls) (any_left_out ls) (arrays_of ls (Some t)) (none_unclear ls h) (λ e. arrays_there ls (Some t) (all_counted ls h e) tt)
 
-pointers_settled : (ls : List Length) (t : TypeOf) → AreClear true ls → Settled (if any_unclear ls then unsettled else if any_left_out ls then refused 39 else of_kind (option_map pointer (arrays_of ls (Some t))) allowed)
-pointers_settled ls t h =
-    lengths_settled (any_unclear ls) (any_left_out ls) (option_map pointer (arrays_of ls (Some t))) (none_unclear ls h) (λ e. map_there pointer (arrays_of ls (Some t)) (arrays_there ls (Some t) (all_counted ls h e) tt))
+by_element_settled : (m : Measure) (t : TypeOf) → Settled (by_element m t)
+by_element_settled (known e) t = tt
+by_element_settled incomplete t = tt
+by_element_settled too_large t = tt
 
-element_settled : (ls : List Length) (t : TypeOf) → AreClear true ls → Settled (element_lengths ls t)
-element_settled [] t h = tt
-element_settled (counted n ∷ ls) t h = pointers_settled ls t h.1
-element_settled (left_out ∷ ls) t h = pointers_settled ls t h.1
-element_settled (unclear ∷ ls) t h = absurd h.0
+pointers_settled : (rooms : List Measure) (ls : List Length) (t : TypeOf) → AreClear true ls → Settled (then_rule (with_lengths ls t) (element_pointer rooms))
+pointers_settled rooms ls t h = then_settled (with_lengths ls t) (element_pointer rooms) (with_settled ls t h) (λ u. by_element_settled (measure rooms u) u)
+
+element_settled : (rooms : List Measure) (ls : List Length) (t : TypeOf) → AreClear true ls → Settled (element_lengths rooms ls t)
+element_settled rooms [] t h = tt
+element_settled rooms (counted n ∷ ls) t h = pointers_settled rooms ls t h.1
+element_settled rooms (left_out ∷ ls) t h = pointers_settled rooms ls t h.1
+element_settled rooms (unclear ∷ ls) t h = absurd h.0
 
 form_clear : (f : ExprShape) → IsClear true (length_in_form f)
 form_clear (leaf (str t)) = tt
@@ -171,8 +176,8 @@ scalar_settled (allowed t) h = by_told 33 (parameter_type (Some t)) (parameter_t
 scalar_settled unsettled h = h
 scalar_settled (refused n) h = h
 
-parameter_settled : (ls : List Length) (k : Option TypeOf) → AreClear true ls → IsThere k → Settled (parameter_rule ls k)
-parameter_settled ls k h is = scalar_settled (of_kind k (element_lengths ls)) (of_kind_settled k (element_lengths ls) is (λ t. element_settled ls t h))
+parameter_settled : (rooms : List Measure) (ls : List Length) (k : Option TypeOf) → AreClear true ls → IsThere k → Settled (parameter_rule rooms ls k)
+parameter_settled rooms ls k h is = scalar_settled (of_kind k (element_lengths rooms ls)) (of_kind_settled k (element_lengths rooms ls) is (λ t. element_settled rooms ls t h))
 
 -- ---- variables
 
@@ -233,7 +238,7 @@ param_fits defining p specs stars x ls i s is its h c =
     let v = steps (name_tokens x) (claim_name defining x b) in
     let l = type_lengths [] ls v in
     let token = token_of_name s.at x b in
-    let k = parameter_rule l.counts (pointed stars (kind_at r)) in
+    let k = parameter_rule l.state.rooms l.counts (pointed stars (kind_at r)) in
     let u = name_demand defining x s.at p l.state in
     let z = rule k token (name_pos p x) u in
     let ruled = back (parameter_grows token x (kind_at k) z) c in
@@ -248,7 +253,7 @@ param_fits defining p specs stars x ls i s is its h c =
     let four = lengths_know true [] ls v its tt three.0 long in
     let five = demand_named defining x s.at p l.state four.1.0 demanded in
     let six = rule_goes k token (name_pos p x) u five.0.0 in
-    let typed = type_there k token (name_pos p x) u (parameter_settled l.counts (pointed stars (kind_at r)) four.0 (pointed_there stars (kind_at r) spelled)) ruled in
+    let typed = type_there k token (name_pos p x) u (parameter_settled l.state.rooms l.counts (pointed stars (kind_at r)) four.0 (pointed_there stars (kind_at r) spelled)) ruled in
     (one.1 ▹ two ▹ three ▹ four.1 ▹ five.0 ▹ six ▹ parameter_goes token x (kind_at k) z typed six.0, typed, five.1)
 
 abbrev pub AreTyped : List (Text × Option TypeOf) → Type 0

@@ -1,37 +1,38 @@
 -- A plain expression in which nothing is complained of is fit: what is changed in it is a place, and of a scalar where it is read too; the name of
 -- a scalar is that of a variable.
 use Rattle.std.proofs.Common.{◌≡◌, ℕ, ◌++◌, List, [], ◌∷◌, length, Bool, true, false, Option, Some, None, refl, sym, subst}
-use Rattle.atac_base.specs.declared.place.Pos.{Pos}
-use Rattle.atac_base.specs.declared.place.IntKind.TheVariants.{Int}
+use Rattle.c_base.specs.declared.place.Pos.{Pos}
+use Rattle.c_base.specs.declared.place.IntKind.TheVariants.{Int}
 use Rattle.c_syntax.specs.declared.tree.BinaryOp.{BinaryOp}
 use Rattle.c_syntax.specs.declared.tree.BinaryOp.TheVariants as op
 use Rattle.c_syntax.specs.declared.tree.UnaryOp.{UnaryOp}
 use Rattle.c_syntax.specs.declared.tree.UnaryOp.TheVariants as front
 use Rattle.c_syntax.specs.Shape.{TypeOf, int, pointer, array, structure, nothing, NoteShape, number, char, str, name, unary, before, size_of, plain, and, or, assign, comma, NodeShape, node, ExprShape, leaf, paren, call, prefix, size_of_type, cast, suffix, two, choose, probe, index, field, behind, simple, select, NodeShapes, no_nodes, more_nodes}
 use Rattle.c_syntax.specs.Shaped.{Shaped, ShapedExpr, ShapedNodes}
-use Rattle.c_kinds.specs.Kinds.{is_scalar, decay}
-use Rattle.c_kinds.specs.Layouts.{Measure}
-use Rattle.c_kinds.specs.Verdicts.{Verdict, fine, unknown, wrong, on, values_type, compound_type, step_type, cast_type}
-use Rattle.c_values.specs.declared.constants.Constant.{Constant}
-use Rattle.c_values.specs.declared.numbers.Number.{Number}
-use Rattle.c_values.specs.Numbers.{number_of}
+use Rattle.c_type_rules.specs.Kinds.{is_scalar, decay}
+use Rattle.c_type_rules.specs.Layouts.{Measure}
+use Rattle.c_type_rules.specs.Verdicts.{Verdict, fine, unknown, wrong, on, values_type, compound_type, step_type, cast_type}
+use Rattle.c_constants.specs.declared.constants.Constant.{Constant}
+use Rattle.c_constants.specs.declared.numbers.Number.{Number}
+use Rattle.c_constants.specs.Numbers.{number_of}
 use Rattle.c_scopes.specs.Scoping.{find}
-use Rattle.c_tree.specs.Tables.{FunctionShape, VariableShape}
+use Rattle.c_tables.specs.Tables.{FunctionShape, VariableShape}
 use Rattle.c_tree.specs.declared.meaning.Entity.{Entity}
 use Rattle.c_tree.specs.declared.meaning.Entity.TheVariants as entity
-use Rattle.c_tree.specs.State.{State, step, steps, row, is_clean}
+use Rattle.c_tree.specs.State.{State, step, steps, is_clean}
+use Rattle.c_tables.specs.Rows.{row}
 use Rattle.c_tree.specs.Rulings.{by, then_rule, rule, kind_at, of_kind, allowed_if, moved}
 use Rattle.c_tree.specs.Sorts.{Sort, Typing, note_of, cleared, pos_in, changeable}
 use Rattle.c_tree.specs.Operators.{number_sort, named_variable, named_entity, called, Given, given_at, call_of, typed_call, unary_sort, unary_rule, place_rule, step_rule, typed_infix, choice_rule, element_rule, holder, field_rule}
 use Rattle.c_tree.specs.Typing.{opening, type_node, type_form, type_arguments, type_type}
-use Rattle.c_items.specs.declared.around.Taken.{Taken}
-use Rattle.c_items.specs.declared.around.Taken.TheVariants.{Read, Written, Changed, Addressed}
-use Rattle.c_items.specs.Places.{is_place, has_scalar}
-use Rattle.c_items.specs.Walked.{operand_taken, left_taken}
-use Rattle.c_marks.specs.Marked.{first, node_mark, form_mark, nodes_mark, type_mark}
-use Rattle.probe_in.specs.Fitting.{MayBe, IsName, IsFit, AreFit}
-use Rattle.probe_in.proofs.ReadyUnits.{some_none, none_first, none_second}
-use Rattle.probe_in.proofs.Grows.{rule_grows, typed_call_grows, infix_grows, node_grows, form_grows, arguments_grows}
+use Rattle.c_walk.specs.declared.around.Taken.{Taken}
+use Rattle.c_walk.specs.declared.around.Taken.TheVariants.{Read, Written, Changed, Addressed}
+use Rattle.c_walk.specs.Places.{is_place, has_scalar}
+use Rattle.c_walk.specs.Walked.{operand_taken, left_taken}
+use Rattle.c_sites_probes.specs.Marked.{first, node_mark, form_mark, nodes_mark, type_mark}
+use Rattle.probe_rules.specs.Fitting.{MayBe, IsName, IsFit, AreFit}
+use Rattle.probe_rules.proofs.ReadyUnits.{some_none, none_first, none_second}
+use Rattle.probe_rules.proofs.Grows.{rule_grows, typed_call_grows, infix_grows, node_grows, form_grows, arguments_grows}
 use Rattle.probe_laws.proofs.Settled.{IsThere, IsClean, mended}
 use Rattle.probe_laws.proofs.Rules.{back, changeable_there, step_there, left_there, infix_there}
 use Rattle.probe_laws.proofs.Known.{MaybeSure, Knows, find_sure}

@@ -1,12 +1,12 @@
 -- Plain statements in which nothing is complained of are fit, and names are known behind them as before them.
 use Rattle.std.proofs.Common.{◌≡◌, ℕ, ℤ, List, [], ◌∷◌, length, false, Option, Some, None, arith}
 use Rattle.std.specs.Prelude.{not}
-use Rattle.atac_base.specs.declared.place.Pos.{Pos}
+use Rattle.c_base.specs.declared.place.Pos.{Pos}
 use Rattle.c_syntax.specs.declared.tree.ProbeMark.{ProbeMark}
 use Rattle.c_syntax.specs.Shape.{TypeOf, block, NodeShape, MaybeNode, no_node, one_node, LabelShape, case, default, StmtShape, stmt, FormShape, compound, simply, when, either, while, do_while, for, switch, break, continue, return, CompoundShape, braces, ItemShapes, no_items, more_items}
 use Rattle.c_syntax.specs.Shaped.{Shaped, ShapedMaybe, ShapedLabels, ShapedStmt, ShapedForm, ShapedCompound, ShapedItems}
-use Rattle.c_kinds.specs.Verdicts.{truth_type}
-use Rattle.c_values.specs.Constants as constants
+use Rattle.c_type_rules.specs.Verdicts.{truth_type}
+use Rattle.c_constants.specs.Constants as constants
 use Rattle.c_tree.specs.State.{State, step, steps}
 use Rattle.c_tree.specs.Rulings.{by, rule}
 use Rattle.c_tree.specs.Sorts.{pos_in}
@@ -14,12 +14,12 @@ use Rattle.c_tree.specs.Operators.{claim, constant_rule}
 use Rattle.c_tree.specs.Typing.{type_node}
 use Rattle.c_tree.specs.Declaring.{type_decls, opened_scope}
 use Rattle.c_tree.specs.Stating.{Surroundings, in_loop, in_switch, Labels, no_labels, tested, switched, result_rule, type_maybe, type_test, type_result, type_marks, case_state, default_state, case_labels, default_labels, type_labels, type_stmt, type_body, type_compound, type_items}
-use Rattle.c_marks.specs.Marked.{first, mark_among, node_mark, maybe_mark, decls_mark, labels_mark, stmt_mark, body_mark, compound_mark, items_mark}
-use Rattle.c_items.specs.declared.around.Taken.TheVariants.{Read}
-use Rattle.probe_in.specs.Fitting.{IsFit, IsFitMaybe, AreFitLabels, IsFitStmt, IsFitBody, IsFitCompound, AreFitItems}
-use Rattle.probe_in.proofs.ReadyUnits.{none_first, none_second}
-use Rattle.probe_in.proofs.Grows.{rule_grows}
-use Rattle.probe_in.proofs.GrowsUnits.{maybe_grows, test_grows, maybe_test_grows, case_grows, labels_grow, stmt_grows, items_grow}
+use Rattle.c_sites_probes.specs.Marked.{first, mark_among, node_mark, maybe_mark, decls_mark, labels_mark, stmt_mark, body_mark, compound_mark, items_mark}
+use Rattle.c_walk.specs.declared.around.Taken.TheVariants.{Read}
+use Rattle.probe_rules.specs.Fitting.{IsFit, IsFitMaybe, AreFitLabels, IsFitStmt, IsFitBody, IsFitCompound, AreFitItems}
+use Rattle.probe_rules.proofs.ReadyUnits.{none_first, none_second}
+use Rattle.probe_rules.proofs.Grows.{rule_grows}
+use Rattle.probe_rules.proofs.GrowsUnits.{maybe_grows, test_grows, maybe_test_grows, case_grows, labels_grow, stmt_grows, items_grow}
 use Rattle.probe_laws.proofs.Settled.{IsClean}
 use Rattle.probe_laws.proofs.Rules.{back}
 use Rattle.probe_laws.proofs.Known.{Knows, Goes, entered_holds, left_holds, stays, ◌▹◌, rule_goes, demand_goes}

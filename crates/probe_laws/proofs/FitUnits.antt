@@ -5,25 +5,25 @@ use Rattle.c_syntax.specs.declared.text.Text.{Text}
 use Rattle.c_syntax.specs.declared.tree.ProgramLine.{ProgramLine}
 use Rattle.c_syntax.specs.Shape.{TypeOf, declarator, arrays, function, ExternalShape, defined, declared, UnitShape}
 use Rattle.c_syntax.specs.Shaped.{ShapedExternal, ShapedExternals}
-use Rattle.c_kinds.specs.Verdicts.{result_type}
-use Rattle.c_values.specs.Probes.{digest_of}
+use Rattle.c_type_rules.specs.Verdicts.{result_type}
+use Rattle.c_constants.specs.Probes.{digest_of}
 use Rattle.c_scopes.specs.Rows.{Scope, Scoped}
 use Rattle.c_scopes.specs.Scoping.{find_here, entered}
-use Rattle.c_tree.specs.Tables.{changed_at, with_definition}
+use Rattle.c_tables.specs.Tables.{changed_at, with_definition}
 use Rattle.c_tree.specs.declared.meaning.Entity.{Entity}
 use Rattle.c_tree.specs.declared.meaning.Entity.TheVariants as entity
-use Rattle.c_tree.specs.State.{State, first_place}
+use Rattle.c_tree.specs.State.{State}
 use Rattle.c_tree.specs.Rulings.{by, rule, kind_at}
 use Rattle.c_tree.specs.Parts.{unspelled, spelled_rule, pointed}
 use Rattle.c_tree.specs.Typing.{type_specs}
 use Rattle.c_tree.specs.Declaring.{next_variable, TypedFunction, type_function, declared_again, with_constants}
 use Rattle.c_tree.specs.Stating.{Surroundings, type_marks, type_compound}
-use Rattle.c_tree.specs.Units.{variable_of, with_variables, numbers_from, begun_function, ended_function, type_external, type_externals, start, type_line, any_main, type_unit, bodies, typed_unit, complaints}
-use Rattle.c_marks.specs.Marked.{first, mark_among, specs_mark, declarator_mark, compound_mark, external_mark, externals_mark, line_mark, unit_mark}
-use Rattle.probe_in.specs.Fitting.{IsFitExternal, AreFitExternals, IsFitUnit}
-use Rattle.probe_in.proofs.ReadyUnits.{none_first, none_second}
-use Rattle.probe_in.proofs.Grows.{rule_grows, demand_grows}
-use Rattle.probe_in.proofs.GrowsUnits.{function_grows, variables_grow, marks_grow, compound_grows, externals_grow}
+use Rattle.c_tree.specs.Units.{specs_place, variable_of, with_variables, numbers_from, begun_function, ended_function, type_external, type_externals, start, type_line, any_main, type_unit, bodies, typed_unit, complaints}
+use Rattle.c_sites_probes.specs.Marked.{first, mark_among, specs_mark, declarator_mark, compound_mark, external_mark, externals_mark, line_mark, unit_mark}
+use Rattle.probe_rules.specs.Fitting.{IsFitExternal, AreFitExternals, IsFitUnit}
+use Rattle.probe_rules.proofs.ReadyUnits.{none_first, none_second}
+use Rattle.probe_rules.proofs.Grows.{rule_grows, demand_grows}
+use Rattle.probe_rules.proofs.GrowsUnits.{function_grows, variables_grow, marks_grow, compound_grows, externals_grow}
 use Rattle.probe_laws.proofs.Settled.{IsThere, IsClean, type_there}
 use Rattle.probe_laws.proofs.Rules.{back}
 use Rattle.probe_laws.proofs.Known.{Holds, Knows, Goes, declared_holds, entered_holds, left_holds, holds_more, stays, ◌▹◌, rule_goes, demand_goes}
@@ -87,7 +87,8 @@ external_fits (defined specs (declarator stars x (arrays ls) i) ms c) s is m h c
 external_fits (defined specs (declarator stars x (function ps) i) ms c) s is m h clean =
     let t = type_specs false specs unspelled s in
     let r = spelled_rule t.spelled in
-    let v = rule r s.at first_place t.state in
+    let q = specs_place specs in
+    let v = rule r s.at q t.state in
     let f = type_function true (kind_at r) stars x ps i v in
     let b = begun_function f f.state in
     let w = type_marks ms b in
@@ -96,9 +97,9 @@ external_fits (defined specs (declarator stars x (function ps) i) ms c) s is m h
     let marked = back (compound_grows e c w) clean in
     let declared = back (variables_grow f.given _) (back (marks_grow ms b) marked) in
     let ruled = back (function_grows true (kind_at r) stars x ps i v) declared in
-    let one = specs_know false specs unspelled s (all_specs specs is.0) (inl refl) h (back (rule_grows r s.at first_place t.state) ruled) in
-    let two = rule_goes r s.at first_place t.state one.1.0 in
-    let typed = type_there r s.at first_place t.state (spelled_settled t.spelled one.0) ruled in
+    let one = specs_know false specs unspelled s (all_specs specs is.0) (inl refl) h (back (rule_grows r s.at q t.state) ruled) in
+    let two = rule_goes r s.at q t.state one.1.0 in
+    let typed = type_there r s.at q t.state (spelled_settled t.spelled one.0) ruled in
     let three = function_fits true (kind_at r) stars x ps i v is.2.1.1 typed two.0 declared in
     let four = begun_goes f f.state three.1 three.0.0 in
     let five = marks_go ms b four.0 in

@@ -4,14 +4,15 @@ use Rattle.std.proofs.Common.{◌≡◌, ℕ, zero, suc, ◌+◌, ◌-◌, ◌�
 use Rattle.std.specs.Prelude.{nat_eq, bytes_eq, if◌then◌else◌}
 use Rattle.std.specs.Option.{option_or}
 use Rattle.std.proofs.lemmas.Bool.Decides.{nat_tests}
-use Rattle.atac_base.specs.declared.place.Pos.{Pos}
+use Rattle.c_base.specs.declared.place.Pos.{Pos}
 use Rattle.c_syntax.specs.declared.text.Text.{Text}
 use Rattle.c_syntax.specs.Shape.{TypeOf}
 use Rattle.c_scopes.specs.Rows.{Scope, Scoped}
 use Rattle.c_scopes.specs.Scoping.{named, find_outer, find_here, find, declared, entered, last_of, but_last, left}
 use Rattle.c_tree.specs.declared.meaning.Entity.{Entity}
 use Rattle.c_tree.specs.declared.meaning.Entity.TheVariants as entity
-use Rattle.c_tree.specs.State.{State, demand, row, number_from, is_function, function_number, pushed_function, numbered_or, mention}
+use Rattle.c_tree.specs.State.{State, demand, is_function, function_number, pushed_function, numbered_or, mention}
+use Rattle.c_tables.specs.Rows.{row, number_from}
 use Rattle.c_tree.specs.Rulings.{Ruled, allowed, unsettled, refused, rule}
 use Rattle.probe_laws.proofs.Settled.{IsThere}
 

@@ -1,24 +1,25 @@
 -- Where nothing is complained of, each expression and each type name has a type, and names are known behind it as before it.
 use Rattle.std.proofs.Common.{◌≡◌, ℕ, ℤ, ◌++◌, inl, List, [], ◌∷◌, length, Bool, true, false, Option, Some, refl, sym, subst}
 use Rattle.std.specs.Prelude.{pos, not, ◌||◌}
-use Rattle.atac_base.specs.declared.place.Pos.{Pos}
-use Rattle.atac_base.specs.declared.place.IntKind.TheVariants.{Int}
+use Rattle.c_base.specs.declared.place.Pos.{Pos}
+use Rattle.c_base.specs.declared.place.IntKind.TheVariants.{Int}
 use Rattle.c_syntax.specs.declared.tree.Named.{Named}
 use Rattle.c_syntax.specs.Shape.{TypeOf, int, number, char, str, name, unary, before, size_of, Infix, plain, and, or, assign, comma, test, NodeShape, node, ExprShape, leaf, paren, call, prefix, size_of_type, cast, suffix, two, choose, probe, index, field, behind, simple, select, NodeShapes, no_nodes, more_nodes, MaybeNode, no_node, one_node, LengthShapes, no_lengths, more_lengths, TypeShape, type_name, SpecShapes, no_specs, more_specs, word, struct, enum, MaybeDecls, no_members, members, MaybeEnumers, no_rows, rows, EnumerShapes, no_enumers, more_enumers, decl, DeclShapes, no_decls, more_decls, declarator, DeclaratorShapes, no_declarators, more_declarators, arrays, function}
 use Rattle.c_syntax.specs.Shaped.{Shaped, ShapedExpr, ShapedNodes, ShapedMaybe, ShapedLengths, ShapedType, SomeSpecs, AllSpecs, ShapedMembers, ShapedRows, ShapedEnumers, Standing, in_members, ShapedDecl, ShapedDecls, ShapedDeclarators, is_there, has_members}
-use Rattle.c_values.specs.Constants as constants
-use Rattle.c_values.specs.Numbers.{number_of}
+use Rattle.c_constants.specs.Constants as constants
+use Rattle.c_constants.specs.Numbers.{number_of}
 use Rattle.c_scopes.specs.Scoping.{find_here, find}
-use Rattle.c_tree.specs.Tables.{FieldShape}
+use Rattle.c_tables.specs.Tables.{FieldShape}
 use Rattle.c_tree.specs.State.{State, step, steps, complain, demand, is_clean, field_type}
 use Rattle.c_tree.specs.Rulings.{rule, kind_at, of_kind, whole, sized}
 use Rattle.c_tree.specs.Sorts.{Sort, pos_in, cleared, changeable}
 use Rattle.c_tree.specs.Operators.{has_value, string_type, with_literal, called, Given, given_at, hushed, heard, unary_rule, place_rule, step_rule, left_side, plain_rule, assigned_rule, typed_infix, choice_rule, element_rule, holder, field_rule, probe_rule, select_rule, constant_rule, claim}
-use Rattle.c_kinds.specs.Verdicts.{cast_type, logical_type}
+use Rattle.c_type_rules.specs.Verdicts.{cast_type, logical_type}
 use Rattle.c_tree.specs.Rulings.{by}
-use Rattle.c_tree.specs.Parts.{Length, left_out, length_of, length_rule, pointed, star_tokens, arrays_of, Spelled, unspelled, with_word, with_tagged, static_fits, spelled_rule, begun_at, opened, tag_tokens, structure_kind, within, is_free, text_of, name_pos, with_field, field_state, entity_of, declare, after, enumeration, passes, value_rule}
-use Rattle.c_tree.specs.Typing.{opening, type_node, type_form, type_arguments, type_cases, type_type, type_lengths, type_specs, type_struct, type_lines, type_fields, type_enum, type_rows, type_value}
-use Rattle.probe_in.proofs.Grows.{rule_grows, typed_call_grows, infix_grows, opened_grows, begun_grows, closed_grows, field_grows, declared_grows, enumeration_grows, node_grows, form_grows, arguments_grows, cases_grow, lengths_grow, specs_grow, lines_grow, fields_grow, rows_grow}
+use Rattle.c_tree.specs.Parts.{Length, left_out, length_of, length_rule, pointed, star_tokens, arrays_of, Spelled, unspelled, with_word, with_tagged, static_fits, spelled_rule, begun_at, opened, tag_tokens, structure_kind, within, is_free, with_field, field_state, entity_of, declare, after, enumeration, passes, value_rule}
+use Rattle.c_tables.specs.Rows.{text_of, name_pos}
+use Rattle.c_tree.specs.Typing.{opening, type_node, type_form, type_arguments, type_cases, type_type, type_lengths, type_specs, type_struct, type_lines, type_fields, type_enum, rows_types, type_value}
+use Rattle.probe_rules.proofs.Grows.{rule_grows, typed_call_grows, infix_grows, opened_grows, begun_grows, closed_grows, field_grows, declared_grows, enumeration_grows, node_grows, form_grows, arguments_grows, cases_grow, lengths_grow, specs_grow, lines_grow, fields_grow, rows_grow}
 use Rattle.probe_laws.proofs.Settled.{IsThere, IsClean, type_there, whole_settled}
 use Rattle.probe_laws.proofs.Rules as rules
 use Rattle.probe_laws.proofs.Rules.{back, unary_there, step_there, size_there, type_size_there, cast_there, infix_there, choice_there, element_there, field_there, probe_there, select_there}
@@ -167,12 +168,14 @@ mutual
       let v = steps 3 (claim test x s.at p s) in
       let t = type_cases [] cs v in
       let w = type_node a (step t.state) in
-      let r = select_rule t.values w.sort in
+      let clean = is_clean v w.state in
+      let r = select_rule clean t.values w.sort in
       let late = back (rule_grows r s.at p w.state) c in
       let first = claim_goes test x s.at p s h in
-      let second = cases_know [] cs v is.0 first.0 (back (node_grows a (step t.state)) late) in
+      let early = back (node_grows a (step t.state)) late in
+      let second = cases_know [] cs v is.0 first.0 early in
       let third = node_knows a (step t.state) is.1 second.0 late in
-      (select_there t.values w.sort s.at p w.state third.0 c, first ▹ second ▹ third.1 ▹ rule_goes r s.at p w.state third.1.0)
+      (select_there clean t.values w.sort s.at p w.state (is_still_clean v w.state (back (cases_grow [] cs v) early) late) third.0 c, first ▹ second ▹ third.1 ▹ rule_goes r s.at p w.state third.1.0)
 
   pub arguments_know : {b : Bool} (gs : List Given) (es : NodeShapes) (s : State) → ShapedNodes 1 es → Knows b s → IsClean (type_arguments gs es s).state → Goes b s (type_arguments gs es s).state
   arguments_know gs no_nodes s is h c = stays s h
@@ -296,12 +299,12 @@ mutual
       (kept_if (is_clean s v) (Some (int Int)) (is_still_clean s v (back (enumeration_grows false t s) c) c) tt, enumeration_goes false t s h)
   enum_knows t (rows es) s is h c =
       let v = step (steps (tag_tokens t) (enumeration true t s)) in
-      let r = type_rows (Some (pos 0)) es v in
+      let r = rows_types (Some (pos 0)) es v in
       let early = back (enumeration_grows true t s) (back (rows_grow (Some (pos 0)) es v) c) in
       let first = enumeration_goes true t s h in
       (kept_if (is_clean s r.state) (Some (int Int)) (is_still_clean s r.state early c) tt, first ▹ rows_know (Some (pos 0)) es v (rows_shaped es is) tt first.0 c)
 
-  pub rows_know : {b : Bool} (next : Option ℤ) (es : EnumerShapes) (s : State) → ShapedEnumers es → IsThere next → Knows b s → IsClean (type_rows next es s).state → Goes b s (type_rows next es s).state
+  pub rows_know : {b : Bool} (next : Option ℤ) (es : EnumerShapes) (s : State) → ShapedEnumers es → IsThere next → Knows b s → IsClean (rows_types next es s).state → Goes b s (rows_types next es s).state
   rows_know next no_enumers s is k h c = stays s h
   rows_know {b} next (more_enumers x v rest) s is k h c =
       let r = type_value s.at x.pos next v (step s) in

@@ -2,8 +2,8 @@
 -- are known as before.
 use Rattle.std.proofs.Common.{◌≡◌, ℕ, ℤ, ◌≤◌, ◌++◌, ◌⊎◌, inl, inr, List, [], ◌∷◌, length, Bool, true, false, Option, Some, None, refl, sym, ap, ◌∙◌, subst, arith}
 use Rattle.std.specs.Prelude.{not, ◌&&◌, ◌||◌, nat_eq, if◌then◌else◌, option_map}
-use Rattle.atac_base.specs.declared.place.Pos.{Pos}
-use Rattle.atac_base.specs.declared.place.IntKind.TheVariants.{Int}
+use Rattle.c_base.specs.declared.place.Pos.{Pos}
+use Rattle.c_base.specs.declared.place.IntKind.TheVariants.{Int}
 use Rattle.c_arith.specs.Arith.{in_range}
 use Rattle.c_syntax.specs.declared.text.Text.{Text}
 use Rattle.c_syntax.specs.declared.token.Key.{Key}
@@ -12,22 +12,23 @@ use Rattle.c_syntax.specs.declared.tree.Named.{Named}
 use Rattle.c_syntax.specs.declared.tree.Star.{Star}
 use Rattle.c_syntax.specs.Shape.{TypeOf, pointer, array, Probing}
 use Rattle.c_syntax.specs.Shaped.{is_there}
-use Rattle.c_kinds.specs.Verdicts.{fits_type}
-use Rattle.c_values.specs.Constants as constants
-use Rattle.c_values.specs.Probes.{probe_number_of}
-use Rattle.c_values.specs.declared.words.Count.TheVariants.{Zero, One}
-use Rattle.c_values.specs.declared.words.Words.{Words}
-use Rattle.c_values.specs.declared.words.Base.{Base}
-use Rattle.c_values.specs.declared.words.Base.TheVariants as base
-use Rattle.c_values.specs.Words as words
+use Rattle.c_type_rules.specs.Verdicts.{fits_type}
+use Rattle.c_constants.specs.Constants as constants
+use Rattle.c_constants.specs.Probes.{probe_number_of}
+use Rattle.c_constants.specs.declared.words.Count.TheVariants.{Zero, One}
+use Rattle.c_constants.specs.declared.words.Words.{Words}
+use Rattle.c_constants.specs.declared.words.Base.{Base}
+use Rattle.c_constants.specs.declared.words.Base.TheVariants as base
+use Rattle.c_constants.specs.Words as words
 use Rattle.c_scopes.specs.Scoping.{named, find_here, find}
-use Rattle.c_tree.specs.Tables.{FunctionShape, VariableShape, FieldShape}
-use Rattle.c_tree.specs.Builtins.{builtin_name, builtin_result, builtin_params}
+use Rattle.c_tables.specs.Tables.{FunctionShape, VariableShape, FieldShape}
+use Rattle.c_tables.specs.Builtins.{builtin_name, builtin_result, builtin_params}
 use Rattle.c_tree.specs.declared.meaning.Entity.{Entity}
 use Rattle.c_tree.specs.declared.meaning.Entity.TheVariants as entity
 use Rattle.c_tree.specs.declared.meaning.Tag.{Tag}
 use Rattle.c_tree.specs.declared.meaning.Tag.TheVariants as tag
-use Rattle.c_tree.specs.State.{State, complain, demand, row, counts, is_set, is_clean}
+use Rattle.c_tree.specs.State.{State, complain, demand, counts, is_set, is_clean}
+use Rattle.c_tables.specs.Rows.{row}
 use Rattle.c_tree.specs.Rulings.{by, rule, of_kind, allowed_if, whole}
 use Rattle.c_tree.specs.Sorts.{Sort}
 use Rattle.c_tree.specs.Operators.{named_variable, named_parameter, named_entity, called_entity, Given, fit_all, call_of, typed_call, seen_of, claimed, claim}

@@ -3,9 +3,9 @@ use Rattle.std.proofs.Common.{◌≡◌, sym, ap, ◌∙◌, subst}
 use Rattle.c_syntax.specs.Shape.{UnitShape}
 use Rattle.c_tree.specs.Units.{TypedUnit, typed_unit, complaints}
 use Rattle.c_tree.proofs.Programs.{typed_again}
-use Rattle.c_marks.specs.Marked.{unit_mark}
-use Rattle.probe_in.specs.Fitting.{IsFitUnit}
-use Rattle.probe_in.proofs.Simulation.{simulates}
+use Rattle.c_sites_probes.specs.Marked.{unit_mark}
+use Rattle.probe_rules.specs.Fitting.{IsFitUnit}
+use Rattle.probe_rules.proofs.Simulation.{simulates}
 use Rattle.probe_laws.specs.Laws.{TypedFits, TakenIsPlain, TakenIsFew, ProgramFits, ProgramSimulates}
 use Rattle.probe_laws.proofs.FewItems.{few_items, is_plain}
 use Rattle.probe_laws.proofs.FitUnits as units

@@ -1,21 +1,21 @@
 -- Where each operand has a type and nothing is complained of, an expression has a type.
-use Rattle.std.proofs.Common.{◌≡◌, ℕ, ℤ, ◌≤◌, List, Option, Some, None, arith}
-use Rattle.atac_base.specs.declared.place.Pos.{Pos}
+use Rattle.std.proofs.Common.{◌≡◌, ℕ, ℤ, ◌≤◌, List, Option, Some, None, arith, Bool, true, false}
+use Rattle.c_base.specs.declared.place.Pos.{Pos}
 use Rattle.c_syntax.specs.declared.text.Text.{Text}
 use Rattle.c_syntax.specs.declared.tree.BinaryOp.{BinaryOp}
 use Rattle.c_syntax.specs.declared.tree.UnaryOp.{UnaryOp}
 use Rattle.c_syntax.specs.declared.tree.UnaryOp.TheVariants as front
 use Rattle.c_syntax.specs.Shape.{TypeOf, int, pointer, array, structure, nothing, Infix, plain, and, or, assign, comma, Access, dot, arrow, Probing, block, test, used, def}
-use Rattle.c_kinds.specs.Kinds.{promote}
-use Rattle.c_kinds.specs.Layouts.{Measure}
-use Rattle.c_kinds.specs.Verdicts.{binary_type, truth_type, logical_type, conditional_type, fits_type, compound_type, step_type, promoted_type, target_type, element_type, address_type, cast_type, scalar_type}
-use Rattle.c_values.specs.declared.numbers.Number.{Number}
-use Rattle.c_values.specs.declared.constants.Constant.{Constant}
+use Rattle.c_type_rules.specs.Kinds.{promote}
+use Rattle.c_type_rules.specs.Layouts.{Measure}
+use Rattle.c_type_rules.specs.Verdicts.{binary_type, truth_type, logical_type, conditional_type, fits_type, compound_type, step_type, promoted_type, target_type, element_type, address_type, cast_type, scalar_type}
+use Rattle.c_constants.specs.declared.numbers.Number.{Number}
+use Rattle.c_constants.specs.declared.constants.Constant.{Constant}
 use Rattle.c_tree.specs.State.{State, step, demand, field_type, fields_of}
 use Rattle.c_tree.specs.Rulings.{Ruled, allowed, unsettled, refused, by, then_rule, kind_at, rule, of_kind, allowed_if, whole, object, moved, sized, as_size, comma_kind}
 use Rattle.c_tree.specs.Sorts.{Sort, null, changeable}
 use Rattle.c_tree.specs.Operators.{number_sort, has_value, unary_rule, unary_sort, place_rule, step_rule, plain_rule, left_side, assigned_rule, typed_infix, choice_rule, element_rule, holder, field_rule, found_field, probe_rule, probe_sort, as_decayed, select_cases, differ, select_rule}
-use Rattle.probe_in.proofs.Grows.{rule_grows}
+use Rattle.probe_rules.proofs.Grows.{rule_grows}
 use Rattle.probe_laws.proofs.Settled.{IsThere, IsClean, Settled, mended, type_there, by_told, then_settled, of_kind_settled, if_settled, whole_settled, object_settled, moved_settled, binary_told, test_told, logical_told, conditional_told, fits_told, compound_told, step_told, promoted_told, target_told, element_told, address_told, cast_told, scalar_told, IsStructure, dot_held, arrow_held, structure_there}
 
 -- nothing was complained of before
@@ -166,6 +166,7 @@ cases_settled vs (Some (array t n)) h = tt
 cases_settled vs (Some (structure n)) h = tt
 cases_settled vs (Some nothing) h = tt
 
-pub select_there : (vs : List (Option ℤ)) (a : Sort) (token : ℕ) (p : Pos) (s : State) → IsThere a.kind → IsClean (rule (select_rule vs a) token p s) → IsThere (kind_at (select_rule vs a))
-select_there vs a token p s h c =
-    type_there (select_rule vs a) token p s (then_settled (then_rule (by 33 (promoted_type a.kind)) (select_cases vs)) (λ t. of_kind a.kind allowed) (cases_settled vs a.kind h) (λ t. of_kind_settled a.kind allowed h (λ u. tt))) c
+pub select_there : (clean : Bool) (vs : List (Option ℤ)) (a : Sort) (token : ℕ) (p : Pos) (s : State) → clean ≡ true → IsThere a.kind → IsClean (rule (select_rule clean vs a) token p s) → IsThere (kind_at (select_rule clean vs a))
+select_there false vs a token p s e h c = cc
+select_there true vs a token p s e h c =
+    type_there (select_rule true vs a) token p s (then_settled (then_rule (by 33 (promoted_type a.kind)) (select_cases vs)) (λ t. of_kind a.kind allowed) (cases_settled vs a.kind h) (λ t. of_kind_settled a.kind allowed h (λ u. tt))) c

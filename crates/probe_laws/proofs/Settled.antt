@@ -1,14 +1,14 @@
 -- Where each operand has a type, the operator's types are settled: the result has a type, or it is complained of.
 use Rattle.std.proofs.Common.{◌≡◌, ℕ, List, [], ◌∷◌, Bool, true, false, Option, Some, None, arith, length, length-append}
 use Rattle.std.specs.Prelude.{◌||◌, if◌then◌else◌}
-use Rattle.atac_base.specs.declared.place.Pos.{Pos}
-use Rattle.atac_base.specs.declared.place.IntKind.TheVariants.{Int}
+use Rattle.c_base.specs.declared.place.Pos.{Pos}
+use Rattle.c_base.specs.declared.place.IntKind.TheVariants.{Int}
 use Rattle.c_syntax.specs.declared.tree.BinaryOp.{BinaryOp}
 use Rattle.c_syntax.specs.declared.tree.BinaryOp.TheVariants as op
 use Rattle.c_syntax.specs.Shape.{TypeOf, int, pointer, array, structure, nothing}
-use Rattle.c_kinds.specs.Kinds.{is_integer, is_scalar, same_type, decay}
-use Rattle.c_kinds.specs.Layouts.{Measure, known, incomplete, too_large, measure}
-use Rattle.c_kinds.specs.Verdicts.{Verdict, fine, unknown, wrong, fine_if, on, null_for, arithmetic_type, shift_type, sum_type, difference_type, order_type, equality_type, values_type, binary_type, truth_of, truth_type, logical_type, alike_type, branches_type, conditional_type, stored_type, fits_type, changed_type, compound_type, step_type, promoted_value, promoted_type, target_of, target_type, element_type, address_of, address_type, structure_of, structure_type, pointed_type, turned_type, cast_type, scalar_type, parameter_type, given_of, result_type}
+use Rattle.c_type_rules.specs.Kinds.{is_integer, is_scalar, same_type, decay}
+use Rattle.c_type_rules.specs.Layouts.{Measure, known, incomplete, too_large, measure}
+use Rattle.c_type_rules.specs.Verdicts.{Verdict, fine, unknown, wrong, fine_if, on, null_for, arithmetic_type, shift_type, sum_type, difference_type, order_type, equality_type, values_type, binary_type, truth_of, truth_type, logical_type, alike_type, branches_type, conditional_type, stored_type, fits_type, changed_type, compound_type, step_type, promoted_value, promoted_type, target_of, target_type, element_type, address_of, address_type, structure_of, structure_type, pointed_type, turned_type, cast_type, scalar_type, parameter_type, given_of, result_type}
 use Rattle.c_tree.specs.State.{State, complain}
 use Rattle.c_tree.specs.Rulings.{Ruled, allowed, unsettled, refused, by, then_rule, kind_at, rule, of_kind, allowed_if, by_room, whole, object, by_end, complete, moved}
 

@@ -1,6 +1,6 @@
 -- Worked programs: one that the law speaks of, and one with a probe, which is typed without complaint but isn't fit. All places are 1:1.
 use Rattle.std.proofs.Common.{◌≡◌, [], ◌∷◌, Option, Some, None, refl, arith}
-use Rattle.atac_base.specs.declared.place.Pos.{Pos}
+use Rattle.c_base.specs.declared.place.Pos.{Pos}
 use Rattle.c_syntax.specs.declared.text.Text.{Text}
 use Rattle.c_syntax.specs.declared.token.Key.TheVariants as key
 use Rattle.c_syntax.specs.declared.tree.Named.{Named}
@@ -9,9 +9,9 @@ use Rattle.c_tree.specs.Units.{typed_unit, complaints}
 use Rattle.c_tree.specs.Programs.{IsSound}
 use Rattle.c_tree.proofs.Programs.{program_typed}
 use Rattle.c_meaning.specs.Calls.{Source}
-use Rattle.probe_in.specs.Instrumented.{instrumented}
-use Rattle.probe_in.specs.Fitting.{IsFitUnit}
-use Rattle.probe_in.specs.Simulation.{Simulates}
+use Rattle.probe_rules.specs.Instrumented.{instrumented}
+use Rattle.probe_rules.specs.Fitting.{IsFitUnit}
+use Rattle.probe_rules.specs.Simulation.{Simulates}
 use Rattle.probe_laws.proofs.Laws.{program_simulates}
 
 abbrev p : Pos

@@ -5,12 +5,12 @@ use Rattle.c_syntax.specs.Shape.{UnitShape}
 use Rattle.c_syntax.specs.Shaped.{ShapedUnit}
 use Rattle.c_tree.specs.Units.{typed_unit, complaints}
 use Rattle.c_tree.specs.Programs.{IsProgram}
-use Rattle.c_marks.specs.Marked.{unit_mark}
+use Rattle.c_sites_probes.specs.Marked.{unit_mark}
 use Rattle.c_meaning.specs.Calls.{Source}
 use Rattle.c_sites.specs.Refused.{refusal}
-use Rattle.probe_in.specs.Instrumented.{instrumented}
-use Rattle.probe_in.specs.Fitting.{IsFitUnit, HasFewItems}
-use Rattle.probe_in.specs.Simulation.{all_walked, IsPlain, Simulates}
+use Rattle.probe_rules.specs.Instrumented.{instrumented}
+use Rattle.probe_rules.specs.Fitting.{IsFitUnit, HasFewItems}
+use Rattle.probe_rules.specs.Simulation.{all_walked, IsPlain, Simulates}
 
 -- a plain unit that the grammar allows, typed without complaint, is fit
 abbrev pub TypedFits : Type 0

@@ -1,8 +1,10 @@
+//! Grids of bits: rows, and the marks that they hold.
+
 ghost use Rattle.std.specs.Prelude.{◌≡◌, ◌+◌, ◌<◌, ◌⊎◌, ◌↔◌, ℕ, IsTrue, true, false, IfOk};
 ghost use Rattle.reach_defs.specs.Held.{Holds, held_count};
 
 use crate::table::Grid;
-use atac_base::place::NoMemory;
+use c_base::place::NoMemory;
 use std::alloc::Global;
 
 /// A grid that holds nothing.

@@ -3,10 +3,14 @@
 
 mod grid;
 mod marks;
-pub mod numbers;
 mod pass;
-pub mod reach;
+pub mod reaching;
 pub mod rows;
 pub mod steps;
 mod table;
 mod worklist;
+
+pub use reaching::reach;
+pub use rows::ReachRow;
+pub use steps::Steps;
+pub use table::Reach;

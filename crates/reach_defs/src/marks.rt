@@ -1,10 +1,12 @@
+//! Lists of different marks.
+
 ghost use Rattle.std.specs.Prelude.{◌≤◌, ◌↔◌, ℕ, List, length, vec_len, Contains, IsTrue, IfOk, OnOk};
 ghost use Rattle.reach_defs.specs.Paths.{IsListed};
 ghost use Rattle.reach_defs.specs.Listing.{AddsMarks};
 ghost use Rattle.reach_defs.specs.Work.{Puts};
 
 use crate::rows::ReachRow;
-use atac_base::place::NoMemory;
+use c_base::place::NoMemory;
 use std::alloc::Global;
 
 /// Whether the mark is among these.

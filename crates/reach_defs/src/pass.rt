@@ -1,3 +1,5 @@
+//! Marks, passed on from row to row.
+
 ghost use Rattle.std.specs.Prelude.{◌≡◌, ◌+◌, ◌<◌, ◌↔◌, ℕ, IsTrue, true, false, length, OnOk, Contains, slice_get};
 ghost use Rattle.reach_defs.specs.Held.{held_count};
 ghost use Rattle.reach_defs.specs.Paths.{Gives, Stops, IsEdge, next_of};
@@ -8,7 +10,7 @@ use crate::marks::has_mark;
 use crate::rows::ReachRow;
 use crate::table::Grid;
 use crate::worklist::Worklist;
-use atac_base::place::NoMemory;
+use c_base::place::NoMemory;
 
 fn gives_mark(rows: &[ReachRow], row: usize, mark: u32) -> bool
     requires { row < length rows.now }

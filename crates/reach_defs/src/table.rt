@@ -1,3 +1,5 @@
+//! Which marks each row holds, as data.
+
 ghost use Rattle.std.specs.Prelude.{◌≡◌, ◌*◌, ◌≤◌, vec_len};
 
 /// Which marks each row holds, a bit for each. A row of bits takes whole words.

@@ -1,8 +1,10 @@
+//! The rows that wait.
+
 ghost use Rattle.std.specs.Prelude.{◌≡◌, ◌+◌, ◌<◌, ◌++◌, ◌∷◌, [], ℕ, length, Contains, MatchOption, IfOk, OnOk, OnErr};
 ghost use Rattle.reach_defs.specs.Work.{Puts};
 
 use crate::steps::Steps;
-use atac_base::place::NoMemory;
+use c_base::place::NoMemory;
 use std::alloc::Global;
 use std::marker::Model;
 use std::sync::ledger::Ledger;

@@ -1,26 +1,30 @@
+//! Operators that evaluate both of their operands.
+
 ghost use Rattle.std.specs.Prelude.{◌≡◌, ◌≤◌, ◌+◌, List, Some, IfOk, OnOk};
-ghost use Rattle.atac_base.specs.declared.probes.Event.{Event};
+ghost use Rattle.c_events.specs.declared.events.Event.{Event};
 ghost use Rattle.c_syntax.specs.Shape.{two, plain};
 ghost use Rattle.c_syntax.specs.View.{node_shape, expr_shape};
-ghost use Rattle.c_tree.specs.Tables.{TablesShape, tables_shape};
+ghost use Rattle.c_tables.specs.Tables.{TablesShape, tables_shape};
 ghost use Rattle.c_meaning.specs.State.{State};
 ghost use Rattle.c_meaning.specs.Results.{then_do};
 ghost use Rattle.c_meaning.specs.Knot.{Knot};
 ghost use Rattle.c_world.specs.World.{state_of};
-ghost use Rattle.c_eval.specs.Rest.{value, Val, waiting, on_second, left, rest, rest_after, weights, size, size_after};
-ghost use Rattle.c_eval.specs.Forms.{Kept};
+ghost use Rattle.c_eval.specs.Rest.{Val, waiting, on_second, left, rest, rest_after, weights, size, size_after};
+ghost use Rattle.c_eval_once.specs.Parts.{value};
+ghost use Rattle.c_eval_once.specs.Forms.{Kept};
 
 use super::Work;
-use crate::direct::direct;
-use crate::frame::{Reply, Step, Wait};
-use crate::leaf::combined;
-use atac_base::place::NoMemory;
+use crate::frame::{Step, Wait};
+use c_base::place::NoMemory;
+use c_eval_once::direct::direct;
+use c_eval_once::leaf::combined;
+use c_eval_once::reply::Reply;
 use c_store::value::Value;
 use c_syntax::tree::{BinaryOp, Node};
-use c_tree::tables::Tables;
+use c_tables::tables::Tables;
 use c_world::world::World;
 
-#[tactic(auto, using(crate::proofs::Steps::frames_push, crate::proofs::Steps::weights_push, crate::proofs::Steps::then_then, crate::proofs::Once::once_given, crate::proofs::Once::once_stopped))]
+#[tactic(auto, using(crate::proofs::Steps::frames_push, crate::proofs::Steps::weights_push, crate::proofs::Steps::then_then, c_eval_once::proofs::Once::once_given, c_eval_once::proofs::Once::once_stopped))]
 impl<'p> Work<'p> {
     // The operands of an operator that evaluates both.
     pub(super) fn binary(

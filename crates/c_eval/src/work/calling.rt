@@ -1,28 +1,32 @@
+//! Calls and their arguments (C89, 3.3.2.2).
+
 ghost use Rattle.std.specs.Prelude.{◌≡◌, ◌<◌, ◌≤◌, ◌+◌, ◌*◌, ◌++◌, ◌∷◌, map, drop, List, Some, None, IfOk, OnOk};
-ghost use Rattle.atac_base.specs.declared.probes.Event.{Event};
+ghost use Rattle.c_events.specs.declared.events.Event.{Event};
 ghost use Rattle.c_syntax.specs.View.{note_shape, node_list, type_of};
 ghost use Rattle.c_store.specs.declared.value.Value.{Value};
-ghost use Rattle.c_tree.specs.Tables.{tables_shape};
+ghost use Rattle.c_tables.specs.Tables.{tables_shape};
 ghost use Rattle.c_meaning.specs.Results.{then_do};
 ghost use Rattle.c_meaning.specs.Knot.{Knot};
 ghost use Rattle.c_meaning.specs.Builtins.{called, params_of, as_parameter};
 ghost use Rattle.c_meaning.specs.Expressions.{arguments};
 ghost use Rattle.c_meaning.specs.Firsts.{quiet};
 ghost use Rattle.c_world.specs.World.{state_of};
-ghost use Rattle.c_eval.specs.Rest.{value, to_value, left, rest, rest_after, weights, size, size_after, Lower};
-ghost use Rattle.c_eval.specs.Forms.{Kept};
+ghost use Rattle.c_eval.specs.Rest.{to_value, left, rest, rest_after, weights, size, size_after, Lower};
+ghost use Rattle.c_eval_once.specs.Parts.{value};
+ghost use Rattle.c_eval_once.specs.Forms.{Kept};
 
 use super::Work;
 use super::passing::pass_place;
-use crate::builtins::built_in;
-use crate::direct::direct;
-use crate::frame::{Reply, Step, Wait};
-use atac_base::place::NoMemory;
+use crate::frame::{Step, Wait};
+use c_base::place::NoMemory;
 use c_compute::operators::converted;
+use c_eval_once::builtins::built_in;
+use c_eval_once::direct::direct;
+use c_eval_once::reply::Reply;
 use c_meaning::end::Stop;
 use c_store::value::{Fault, Value};
 use c_syntax::tree::{CType, Node, Note};
-use c_tree::tables::Tables;
+use c_tables::tables::Tables;
 use c_world::world::World;
 
 #[tactic(auto, using(crate::proofs::Steps::frames_push, crate::proofs::Steps::weights_push, crate::proofs::Steps::then_then, crate::proofs::Steps::lower, crate::proofs::Steps::needed_then, crate::proofs::Steps::at_place))]

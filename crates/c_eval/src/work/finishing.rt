@@ -1,28 +1,33 @@
+//! Last operands, by whose value the node is done.
+
 ghost use Rattle.std.specs.Prelude.{◌≡◌, ◌≤◌, ◌+◌, List, Option, Some, true, IfOk, OnOk};
-ghost use Rattle.atac_base.specs.declared.probes.Event.{Event};
+ghost use Rattle.c_events.specs.declared.events.Event.{Event};
 ghost use Rattle.c_syntax.specs.View.{node_shape, expr_shape};
 ghost use Rattle.c_store.specs.declared.value.Value.{Value};
-ghost use Rattle.c_tree.specs.Tables.{TablesShape, tables_shape};
+ghost use Rattle.c_tables.specs.Tables.{TablesShape, tables_shape};
 ghost use Rattle.c_meaning.specs.State.{State};
 ghost use Rattle.c_meaning.specs.Results.{then_do};
 ghost use Rattle.c_meaning.specs.Knot.{Knot};
 ghost use Rattle.c_world.specs.World.{state_of};
-ghost use Rattle.c_eval.specs.Rest.{value, Val, waiting, on_second, on_written, on_combined, left, rest, rest_after, weights, size, size_after};
-ghost use Rattle.c_eval.specs.Forms.{Kept, is_last};
+ghost use Rattle.c_eval.specs.Rest.{Val, waiting, on_second, on_written, on_combined, left, rest, rest_after, weights, size, size_after};
+ghost use Rattle.c_eval_once.specs.Parts.{value};
+ghost use Rattle.c_eval.specs.Forms.{is_last};
+ghost use Rattle.c_eval_once.specs.Forms.{Kept};
 
 use super::Work;
-use crate::direct::direct;
-use crate::frame::{Reply, Step, Wait};
-use crate::leaf::{combined, converted_by, element_at, truth_at};
-use crate::telling::{write, write_combined};
-use atac_base::place::NoMemory;
+use crate::frame::{Step, Wait};
+use c_base::place::NoMemory;
+use c_eval_once::direct::direct;
+use c_eval_once::leaf::{combined, converted_by, element_at, truth_at};
+use c_eval_once::reply::Reply;
+use c_eval_once::telling::{write, write_combined};
 use c_meaning::end::Stop;
 use c_store::value::{Fault, Pointer, Value};
 use c_syntax::tree::{Expr, Node};
-use c_tree::tables::Tables;
+use c_tables::tables::Tables;
 use c_world::world::World;
 
-#[tactic(auto, using(crate::proofs::Steps::frames_push, crate::proofs::Steps::weights_push, crate::proofs::Steps::then_then, crate::proofs::Once::once_given, crate::proofs::Once::once_stopped))]
+#[tactic(auto, using(crate::proofs::Steps::frames_push, crate::proofs::Steps::weights_push, crate::proofs::Steps::then_then, c_eval_once::proofs::Once::once_given, c_eval_once::proofs::Once::once_stopped))]
 impl<'p> Work<'p> {
     // A last operand, whose value the node waits for, if it hasn't it at once.
     #[inline(always)]

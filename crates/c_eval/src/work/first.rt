@@ -1,24 +1,28 @@
+//! First operands, whose value or place the node waits for.
+
 ghost use Rattle.std.specs.Prelude.{◌≡◌, ◌≤◌, ◌+◌, List, IfOk, OnOk};
-ghost use Rattle.atac_base.specs.declared.probes.Event.{Event};
+ghost use Rattle.c_events.specs.declared.events.Event.{Event};
 ghost use Rattle.c_syntax.specs.View.{node_shape};
-ghost use Rattle.c_tree.specs.Tables.{tables_shape};
+ghost use Rattle.c_tables.specs.Tables.{tables_shape};
 ghost use Rattle.c_meaning.specs.Results.{then_do};
 ghost use Rattle.c_meaning.specs.Knot.{Knot};
 ghost use Rattle.c_world.specs.World.{state_of};
-ghost use Rattle.c_eval.specs.Rest.{value, place, Val, Spot, waiting, on_operand, on_found, left, rest, rest_after, weights, size, size_after};
-ghost use Rattle.c_eval.specs.Forms.{Kept};
+ghost use Rattle.c_eval.specs.Rest.{Val, Spot, waiting, on_operand, on_found, left, rest, rest_after, weights, size, size_after};
+ghost use Rattle.c_eval_once.specs.Parts.{value, place};
+ghost use Rattle.c_eval_once.specs.Forms.{Kept};
 
 use super::Work;
-use crate::at_once::place_at_once;
-use crate::direct::direct;
-use crate::frame::{Reply, Step, Wait};
-use atac_base::place::NoMemory;
+use crate::frame::{Step, Wait};
+use c_base::place::NoMemory;
+use c_eval_once::at_once::place_at_once;
+use c_eval_once::direct::direct;
+use c_eval_once::reply::Reply;
 use c_meaning::end::Stop;
 use c_syntax::tree::Node;
-use c_tree::tables::Tables;
+use c_tables::tables::Tables;
 use c_world::world::World;
 
-#[tactic(auto, using(crate::proofs::Steps::frames_push, crate::proofs::Steps::weights_push, crate::proofs::Steps::then_then, crate::proofs::Once::once_given, crate::proofs::Once::once_stopped, crate::proofs::Once::spot_given, crate::proofs::Once::spot_stopped))]
+#[tactic(auto, using(crate::proofs::Steps::frames_push, crate::proofs::Steps::weights_push, crate::proofs::Steps::then_then, c_eval_once::proofs::Once::once_given, c_eval_once::proofs::Once::once_stopped, c_eval_once::proofs::Once::spot_given, c_eval_once::proofs::Once::spot_stopped))]
 impl<'p> Work<'p> {
     // A first operand, whose value the node waits for, if it hasn't it at once.
     pub(super) fn first(

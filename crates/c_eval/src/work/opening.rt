@@ -1,25 +1,30 @@
+//! Nodes whose value or place is wanted, with what waits for it.
+
 ghost use Rattle.std.specs.Prelude.{◌≡◌, ◌<◌, ◌+◌, ◌*◌, List, Option, Some, None, true, false, IfOk, OnOk};
-ghost use Rattle.atac_base.specs.declared.probes.Event.{Event};
+ghost use Rattle.c_events.specs.declared.events.Event.{Event};
 ghost use Rattle.c_syntax.specs.View.{node_shape};
 ghost use Rattle.c_store.specs.declared.value.Value.{Value};
-ghost use Rattle.c_tree.specs.Tables.{TablesShape, tables_shape};
+ghost use Rattle.c_tables.specs.Tables.{TablesShape, tables_shape};
 ghost use Rattle.c_meaning.specs.Results.{then_do};
 ghost use Rattle.c_meaning.specs.Knot.{Knot};
 ghost use Rattle.c_world.specs.World.{state_of};
-ghost use Rattle.c_eval.specs.Rest.{Taker, waiting, value, place, Val, Spot, to_value, to_spot, left, rest, rest_after, weights, size_after, Lower};
-ghost use Rattle.c_eval.specs.Forms.{Kept, told, is_probe, is_bare_place, is_bare, standing, has_place};
+ghost use Rattle.c_eval.specs.Rest.{Taker, waiting, Val, Spot, to_value, to_spot, left, rest, rest_after, weights, size_after, Lower};
+ghost use Rattle.c_eval_once.specs.Parts.{value, place};
+ghost use Rattle.c_eval.specs.Forms.{is_probe, is_bare_place, is_bare, has_place};
+ghost use Rattle.c_eval_once.specs.Forms.{Kept, told, standing};
 
 use super::Work;
 use super::passing::pass_place;
-use crate::builtins::built_in;
-use crate::direct::direct;
-use crate::frame::{Frame, Passed, Reply, Step, Wait};
-use crate::telling::tell_test;
-use atac_base::place::NoMemory;
+use crate::frame::{Frame, Passed, Step, Wait};
+use c_base::place::NoMemory;
+use c_eval_once::builtins::built_in;
+use c_eval_once::direct::direct;
+use c_eval_once::reply::Reply;
+use c_eval_once::telling::tell_test;
 use c_meaning::end::Stop;
 use c_store::value::{Fault, Pointer, Value};
 use c_syntax::tree::{Expr, ExprProbe, Node, Note, UnaryOp};
-use c_tree::tables::Tables;
+use c_tables::tables::Tables;
 use c_world::world::World;
 
 #[tactic(auto, using(crate::proofs::Steps::frames_push, crate::proofs::Steps::weights_push, crate::proofs::Steps::then_then, crate::proofs::Steps::lower))]

@@ -1,22 +1,26 @@
+//! The parentheses and probes round a node, which are passed on the way in.
+
 ghost use Rattle.std.specs.Prelude.{◌≡◌, ◌<◌, List, IfOk, OnOk};
-ghost use Rattle.atac_base.specs.declared.probes.Event.{Event};
+ghost use Rattle.c_events.specs.declared.events.Event.{Event};
 ghost use Rattle.c_syntax.specs.View.{node_shape};
-ghost use Rattle.c_tree.specs.Tables.{TablesShape};
+ghost use Rattle.c_tables.specs.Tables.{TablesShape};
 ghost use Rattle.c_meaning.specs.Results.{then_do};
 ghost use Rattle.c_meaning.specs.Knot.{Knot};
 ghost use Rattle.c_world.specs.World.{state_of};
-ghost use Rattle.c_eval.specs.Rest.{value, place, to_value, left, rest, weights};
-ghost use Rattle.c_eval.specs.Forms.{Kept, passed_value, passed_place, IsBare, IsBarePlace};
+ghost use Rattle.c_eval.specs.Rest.{to_value, left, rest, weights};
+ghost use Rattle.c_eval_once.specs.Parts.{value, place};
+ghost use Rattle.c_eval.specs.Forms.{passed_value, passed_place, IsBare, IsBarePlace};
+ghost use Rattle.c_eval_once.specs.Forms.{Kept};
 
 use super::Work;
-use crate::builtins::built_in;
 use crate::frame::{Frame, Passed, Wait};
-use crate::telling::tell_block;
-use atac_base::place::NoMemory;
+use c_base::place::NoMemory;
+use c_eval_once::builtins::built_in;
+use c_eval_once::telling::tell_block;
 use c_meaning::end::Stop;
 use c_store::value::Fault;
 use c_syntax::tree::{Expr, ExprProbe, Node};
-use c_tree::tables::Tables;
+use c_tables::tables::Tables;
 use c_world::world::World;
 
 #[tactic(auto, using(crate::proofs::Steps::frames_push, crate::proofs::Steps::weights_push, crate::proofs::Steps::then_then, crate::proofs::Steps::lower))]

@@ -1,25 +1,29 @@
+//! Places without probes (C89, 3.2.2.1).
+
 ghost use Rattle.std.specs.Prelude.{◌≡◌, ◌<◌, ◌≤◌, ◌+◌, ◌*◌, List, Some, true, IfOk, OnOk};
-ghost use Rattle.atac_base.specs.declared.probes.Event.{Event};
+ghost use Rattle.c_events.specs.declared.events.Event.{Event};
 ghost use Rattle.c_syntax.specs.View.{node_shape, note_shape};
-ghost use Rattle.c_tree.specs.Tables.{TablesShape, tables_shape};
+ghost use Rattle.c_tables.specs.Tables.{TablesShape, tables_shape};
 ghost use Rattle.c_meaning.specs.State.{State};
 ghost use Rattle.c_meaning.specs.Results.{then_do, settled};
 ghost use Rattle.c_meaning.specs.Knot.{Knot};
 ghost use Rattle.c_world.specs.World.{state_of};
 ghost use Rattle.c_world.specs.Steps.{found};
-ghost use Rattle.c_eval.specs.Rest.{place, to_spot, left, rest, rest_after, weights, size, size_after, Lower, one_more};
-ghost use Rattle.c_eval.specs.Forms.{Kept, has_place, noted_place};
+ghost use Rattle.c_eval.specs.Rest.{to_spot, left, rest, rest_after, weights, size, size_after, Lower};
+ghost use Rattle.c_eval_once.specs.Parts.{place, one_more};
+ghost use Rattle.c_eval.specs.Forms.{has_place};
+ghost use Rattle.c_eval_once.specs.Forms.{Kept, noted_place};
 
 use super::Work;
 use super::passing::pass_place;
-use crate::builtins::built_in;
 use crate::frame::{Step, Wait};
-use crate::leaf::variable;
-use atac_base::place::NoMemory;
+use c_base::place::NoMemory;
+use c_eval_once::builtins::built_in;
+use c_eval_once::leaf::variable;
 use c_meaning::end::Stop;
 use c_store::value::{Fault, Pointer};
 use c_syntax::tree::{Expr, Node, Note, UnaryOp};
-use c_tree::tables::Tables;
+use c_tables::tables::Tables;
 use c_world::world::World;
 
 #[tactic(auto, using(crate::proofs::Steps::frames_push, crate::proofs::Steps::weights_push, crate::proofs::Steps::then_then, crate::proofs::Steps::lower, crate::proofs::Steps::needed_then, crate::proofs::Steps::at_place))]

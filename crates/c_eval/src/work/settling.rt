@@ -1,15 +1,17 @@
+//! What a step came to, for what waits for it.
+
 ghost use Rattle.std.specs.Prelude.{◌≡◌, ℕ, ◌<◌, ◌+◌, ◌*◌, List, IfOk, OnOk};
-ghost use Rattle.atac_base.specs.declared.probes.Event.{Event};
-ghost use Rattle.c_tree.specs.Tables.{tables_shape};
+ghost use Rattle.c_events.specs.declared.events.Event.{Event};
+ghost use Rattle.c_tables.specs.Tables.{tables_shape};
 ghost use Rattle.c_meaning.specs.Knot.{Knot};
 ghost use Rattle.c_world.specs.World.{state_of};
 ghost use Rattle.c_eval.specs.Rest.{rest, rest_after, size, size_after, Lower};
-ghost use Rattle.c_eval.specs.Forms.{Kept};
+ghost use Rattle.c_eval_once.specs.Forms.{Kept};
 
 use super::Work;
 use crate::frame::{Focus, Step};
-use atac_base::place::NoMemory;
-use c_tree::tables::Tables;
+use c_base::place::NoMemory;
+use c_tables::tables::Tables;
 use c_world::world::World;
 
 #[tactic(auto, using(crate::proofs::Steps::lower_up, crate::proofs::Steps::lower_less))]

@@ -1,24 +1,28 @@
+//! Nodes that are no places, behind their turn.
+
 ghost use Rattle.std.specs.Prelude.{◌≡◌, ◌<◌, ◌≤◌, ◌+◌, ◌*◌, List, true, false, IfOk, OnOk};
-ghost use Rattle.atac_base.specs.declared.probes.Event.{Event};
+ghost use Rattle.c_events.specs.declared.events.Event.{Event};
 ghost use Rattle.c_syntax.specs.Shape.{prefix, unary};
 ghost use Rattle.c_syntax.specs.View.{node_shape, expr_shape};
-ghost use Rattle.c_tree.specs.Tables.{TablesShape, tables_shape};
+ghost use Rattle.c_tables.specs.Tables.{TablesShape, tables_shape};
 ghost use Rattle.c_meaning.specs.State.{State};
 ghost use Rattle.c_meaning.specs.Results.{then_do};
 ghost use Rattle.c_meaning.specs.Knot.{Knot};
 ghost use Rattle.c_world.specs.World.{state_of};
-ghost use Rattle.c_eval.specs.Rest.{value, place, to_value, left, rest, rest_after, weights, size, size_after, Lower, one_more};
-ghost use Rattle.c_eval.specs.Forms.{Kept, is_bare, is_address, is_deref, is_prefix, is_infix, standing};
+ghost use Rattle.c_eval.specs.Rest.{to_value, left, rest, rest_after, weights, size, size_after, Lower};
+ghost use Rattle.c_eval_once.specs.Parts.{value, place, one_more};
+ghost use Rattle.c_eval.specs.Forms.{is_bare, is_prefix, is_infix};
+ghost use Rattle.c_eval_once.specs.Forms.{Kept, is_address, is_deref, standing};
 
 use super::Work;
 use super::passing::pass_place;
-use crate::builtins::built_in;
 use crate::frame::{Step, Wait};
-use crate::leaf::leaf;
-use atac_base::place::NoMemory;
+use c_base::place::NoMemory;
+use c_eval_once::builtins::built_in;
+use c_eval_once::leaf::leaf;
 use c_meaning::end::Stop;
 use c_syntax::tree::{Expr, Node, UnaryOp};
-use c_tree::tables::Tables;
+use c_tables::tables::Tables;
 use c_world::world::World;
 
 #[tactic(auto, using(crate::proofs::Steps::frames_push, crate::proofs::Steps::weights_push, crate::proofs::Steps::then_then, crate::proofs::Steps::lower, crate::proofs::Steps::needed_then, crate::proofs::Steps::at_place))]

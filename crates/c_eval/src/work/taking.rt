@@ -1,29 +1,36 @@
+//! What a frame does with the value or the place that it waited for.
+
 ghost use Rattle.std.specs.Prelude.{◌≡◌, ◌<◌, ◌≤◌, ◌+◌, ◌*◌, List, Option, Some, None, true, IfOk, OnOk};
-ghost use Rattle.atac_base.specs.declared.probes.Event.{Event};
+ghost use Rattle.c_events.specs.declared.events.Event.{Event};
 ghost use Rattle.c_syntax.specs.View.{note_shape, expr_shape};
 ghost use Rattle.c_store.specs.declared.value.Value.{Value};
-ghost use Rattle.c_tree.specs.Tables.{TablesShape, tables_shape};
+ghost use Rattle.c_tables.specs.Tables.{TablesShape, tables_shape};
 ghost use Rattle.c_meaning.specs.State.{State};
 ghost use Rattle.c_meaning.specs.Results.{Gives, then_do};
 ghost use Rattle.c_meaning.specs.Knot.{Knot};
 ghost use Rattle.c_meaning.specs.Expressions.{cast_value};
 ghost use Rattle.c_meaning.specs.Constants.{kind_noted};
 ghost use Rattle.c_world.specs.World.{state_of};
-ghost use Rattle.c_eval.specs.Rest.{value, place, Val, Spot, to_value, does, on_operand, on_found, on_second, on_written, on_combined, on_comma, left, rest, rest_after, weight, weights, size, size_after, Lower};
-ghost use Rattle.c_eval.specs.Forms.{Kept, takes_none, is_choosing};
+ghost use Rattle.c_eval.specs.Rest.{Val, Spot, to_value, does, on_operand, on_found, on_second, on_written, on_combined, on_comma, left, rest, rest_after, weight, weights, size, size_after, Lower};
+ghost use Rattle.c_eval_once.specs.Parts.{value, place};
+ghost use Rattle.c_eval.specs.Forms.{takes_none, is_choosing};
+ghost use Rattle.c_eval_once.specs.Forms.{Kept};
 
 use super::Work;
 use super::passing::pass_place;
-use crate::builtins::built_in;
-use crate::frame::{Frame, Reply, Step, Wait};
-use crate::leaf::{cast, combined, converted_by, element_at, field, field_behind, truth_at, unary};
-use crate::telling::{fetch, load, stepped, write, write_combined};
-use atac_base::place::NoMemory;
+use crate::frame::{Frame, Step, Wait};
+use c_base::place::NoMemory;
 use c_compute::operators::{is_true, target};
+use c_eval_once::builtins::built_in;
+use c_eval_once::leaf::{
+    cast, combined, converted_by, element_at, field, field_behind, truth_at, unary,
+};
+use c_eval_once::reply::Reply;
+use c_eval_once::telling::{fetch, load, stepped, write, write_combined};
 use c_meaning::end::Stop;
 use c_store::value::{Fault, Pointer, Value};
 use c_syntax::tree::{Expr, Node, UnaryOp};
-use c_tree::tables::Tables;
+use c_tables::tables::Tables;
 use c_world::world::World;
 
 #[tactic(auto, using(crate::proofs::Steps::frames_push, crate::proofs::Steps::weights_push, crate::proofs::Steps::then_then, crate::proofs::Steps::lower, crate::proofs::Steps::last_then, crate::proofs::Roles::operand_spot, crate::proofs::Roles::second_spot, crate::proofs::Roles::second_none, crate::proofs::Roles::written_spot, crate::proofs::Roles::written_none, crate::proofs::Roles::combined_spot, crate::proofs::Roles::combined_none, crate::proofs::Roles::comma_spot, crate::proofs::Roles::found_value))]

@@ -1,5 +1,7 @@
+//! What is asked of the state.
+
 ghost use Rattle.std.specs.Prelude.{◌≡◌, List, length};
-ghost use Rattle.atac_base.specs.declared.probes.Event.{Event};
+ghost use Rattle.c_events.specs.declared.events.Event.{Event};
 ghost use Rattle.c_syntax.specs.View.{type_of};
 ghost use Rattle.c_meaning.specs.State.{activation_in, function_in, instance_of};
 ghost use Rattle.c_meaning.specs.Places.{variable_place, selected_place};
@@ -11,8 +13,8 @@ use crate::places::{cells_in, has_part, object_at};
 use c_meaning::end::Stop;
 use c_store::value::{Fault, Pointer};
 use c_syntax::tree::CType;
+use c_tables::tables::Tables;
 use c_tree::program::Program;
-use c_tree::tables::Tables;
 
 impl<'p> World<'p> {
     /// The program.

@@ -1,5 +1,7 @@
+//! What is made before `main` is called (C89, 3.1.2.4 and 3.5.7).
+
 ghost use Rattle.std.specs.Prelude.{◌≡◌, ◌<◌, ◌≤◌, suc, List, length, map, slice_get, IfOk, OnOk};
-ghost use Rattle.atac_base.specs.declared.probes.Event.{Event};
+ghost use Rattle.c_events.specs.declared.events.Event.{Event};
 ghost use Rattle.c_syntax.specs.View.{maybe_init, declarator_shape, declarator_list, decl_shape, external_shape};
 ghost use Rattle.c_meaning.specs.Results.{then_do, present};
 ghost use Rattle.c_meaning.specs.Firsts.{quiet};
@@ -7,15 +9,15 @@ ghost use Rattle.c_syntax.specs.Shape.{TypeOf};
 ghost use Rattle.c_meaning.specs.Layout.{cells, variable_kind};
 ghost use Rattle.c_meaning.specs.Declarations.{file_variable, file_name, file_names, file_decl};
 ghost use Rattle.c_meaning.specs.Runs.{literals_made, external_made, externals_made, all_made, silent};
-ghost use Rattle.c_routines.specs.Routines.{source_of};
+ghost use Rattle.c_meaning.specs.Sources.{source_of};
 ghost use Rattle.c_world.specs.Steps.{literal_made, placed_at, placed_file};
 ghost use Rattle.c_world.specs.World.{state_of, tables_of, answered, Same};
 
 use super::World;
-use atac_base::place::NoMemory;
+use c_base::place::NoMemory;
 use c_compute::layout::variable_cells;
 use c_meaning::end::Stop;
-use c_routines::counts::{behind_external, behind_name};
+use c_plan::counts::{behind_external, behind_name};
 use c_store::value::{Fault, MakeErr};
 use c_syntax::tree::{Decl, DeclForm, Declarator, External, Init, Named};
 

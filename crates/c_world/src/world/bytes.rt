@@ -1,12 +1,14 @@
+//! Bytes of the input and of the output.
+
 ghost use Rattle.std.specs.Prelude.{◌≡◌, List, [], ◌∷◌, IfOk, Some};
-ghost use Rattle.atac_base.specs.declared.probes.Event.{Event};
+ghost use Rattle.c_events.specs.declared.events.Event.{Event};
 ghost use Rattle.c_meaning.specs.Results.{Gives};
 ghost use Rattle.c_meaning.specs.Builtins.{next_byte, byte_of, put_byte};
 ghost use Rattle.c_world.specs.Steps.{given_value};
 ghost use Rattle.c_world.specs.World.{state_of, Same};
 
 use super::World;
-use atac_base::place::NoMemory;
+use c_base::place::NoMemory;
 use c_meaning::end::Stop;
 use c_store::value::{Fault, Value};
 

@@ -1,5 +1,7 @@
+//! Local variables, made (C89, 3.5.7).
+
 ghost use Rattle.std.specs.Prelude.{◌≡◌, ℕ, suc, List, Option, IfOk, OnOk};
-ghost use Rattle.atac_base.specs.declared.probes.Event.{Event};
+ghost use Rattle.c_events.specs.declared.events.Event.{Event};
 ghost use Rattle.c_syntax.specs.declared.tree.Named.{Named};
 ghost use Rattle.c_syntax.specs.declared.tree.Star.{Star};
 ghost use Rattle.c_syntax.specs.Shape.{LengthShapes, declarator, arrays, no_init};
@@ -12,7 +14,7 @@ ghost use Rattle.c_world.specs.World.{state_of, tables_of, answered, Same};
 
 use super::World;
 use crate::answers::Placed;
-use atac_base::place::NoMemory;
+use c_base::place::NoMemory;
 use c_compute::layout::variable_cells;
 use c_meaning::end::Stop;
 use c_store::value::{Fault, MakeErr};

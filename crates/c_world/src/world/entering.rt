@@ -1,20 +1,23 @@
+//! Calls up to the body of the function, with their arguments (C89, 3.3.2.2).
+
 ghost use Rattle.std.specs.Prelude.{◌≡◌, ◌<◌, List, ◌∷◌, length, option_map, IfOk, OnOk, None};
-ghost use Rattle.atac_base.specs.declared.probes.Event.{Event};
+ghost use Rattle.c_events.specs.declared.events.Event.{Event};
 ghost use Rattle.c_syntax.specs.View.{decl_form_shape, params_shape, param_shape, param_list};
 ghost use Rattle.c_meaning.specs.Firsts.{quiet};
 ghost use Rattle.c_meaning.specs.Counts.{decl_variables};
 ghost use Rattle.c_meaning.specs.Calls.{routine, given, given_params, given_all, activated, entered};
 ghost use Rattle.c_meaning.specs.Runs.{silent};
-ghost use Rattle.c_routines.specs.Routines.{source_of, routine_of};
+ghost use Rattle.c_plan.specs.Routines.{routine_of};
+ghost use Rattle.c_meaning.specs.Sources.{source_of};
 ghost use Rattle.c_world.specs.Names.{IsActive, scope_counts};
 ghost use Rattle.c_world.specs.Steps.{given_one};
 ghost use Rattle.c_world.specs.World.{state_of, tables_of, answered, Same};
 
 use super::World;
 use crate::answers::Placed;
-use atac_base::place::NoMemory;
+use c_base::place::NoMemory;
 use c_meaning::end::Stop;
-use c_routines::routines::Routine;
+use c_plan::routines::Routine;
 use c_store::value::{Fault, Value};
 use c_syntax::tree::{DeclForm, Param, Params};
 

@@ -1,10 +1,12 @@
+//! Scalars, initialised (C89, 3.5.7).
+
 ghost use Rattle.std.specs.Prelude.{◌≡◌, List, IfOk};
-ghost use Rattle.atac_base.specs.declared.probes.Event.{Event};
+ghost use Rattle.c_events.specs.declared.events.Event.{Event};
 ghost use Rattle.c_world.specs.Steps.{filled_one};
 ghost use Rattle.c_world.specs.World.{state_of, tables_of, answered, Same};
 
 use super::World;
-use atac_base::place::NoMemory;
+use c_base::place::NoMemory;
 use c_compute::operators::converted;
 use c_meaning::end::Stop;
 use c_store::value::{Fault, Value};

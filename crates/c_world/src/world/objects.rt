@@ -1,5 +1,7 @@
+//! Arrays and structures, initialised (C89, 3.5.7).
+
 ghost use Rattle.std.specs.Prelude.{◌≡◌, ◌≤◌, ℕ, List, length, Some, IfOk};
-ghost use Rattle.atac_base.specs.declared.probes.Event.{Event};
+ghost use Rattle.c_events.specs.declared.events.Event.{Event};
 ghost use Rattle.c_syntax.specs.Shape.{TypeOf};
 ghost use Rattle.c_syntax.specs.View.{init_shape, maybe_init};
 ghost use Rattle.c_meaning.specs.State.{tells};
@@ -8,7 +10,7 @@ ghost use Rattle.c_meaning.specs.Constants.{init_cells};
 ghost use Rattle.c_meaning.specs.Firsts.{quiet};
 ghost use Rattle.c_meaning.specs.Places.{first_cell};
 ghost use Rattle.c_meaning.specs.Declarations.{name_marks, filled, filled_whole, file_cells};
-ghost use Rattle.c_compute.specs.Sizes.{kept};
+ghost use Rattle.c_base.specs.Kept.{kept};
 ghost use Rattle.c_world.specs.Steps.{stored_maybe, filled_at, filled_object};
 ghost use Rattle.c_world.specs.World.{state_of, tables_of, answered, Same};
 
@@ -16,9 +18,9 @@ use super::World;
 use super::writing::name_site;
 use crate::answers::Site;
 use crate::places::{first_cell, next_cell};
-use atac_base::place::NoMemory;
+use c_base::place::NoMemory;
 use c_compute::layout::variable_cells;
-use c_initials::objects::{file_cells, init_cells};
+use c_compute::objects::{file_cells, init_cells};
 use c_meaning::end::Stop;
 use c_store::value::{Fault, Pointer, Value};
 use c_syntax::tree::{Init, Named};

@@ -1,5 +1,7 @@
+//! A new run, its turns, and its scopes.
+
 ghost use Rattle.std.specs.Prelude.{◌≡◌, ◌+◌, ◌≤◌, ◌-◌, ℕ, suc, List, length, true, false, OnOk, IfOk};
-ghost use Rattle.atac_base.specs.declared.probes.Event.{Event};
+ghost use Rattle.c_events.specs.declared.events.Event.{Event};
 ghost use Rattle.c_meaning.specs.State.{start, tail_of};
 ghost use Rattle.c_meaning.specs.Statements.{scope_opened, scope_closed};
 ghost use Rattle.c_meaning.specs.Calls.{left};
@@ -9,8 +11,8 @@ ghost use Rattle.c_world.specs.World.{state_of, Same};
 
 use super::World;
 use crate::names::Names;
-use atac_base::place::NoMemory;
-use c_routines::routines::Routines;
+use c_base::place::NoMemory;
+use c_plan::routines::Routines;
 use c_store::store::Store;
 use c_syntax::text::Text;
 use c_tree::program::Program;

@@ -1,11 +1,14 @@
+//! Events, logged and told.
+
 ghost use Rattle.std.specs.Prelude.{◌≡◌, ◌++◌, ℕ, List, take, OnOk, OnErr};
-ghost use Rattle.atac_base.specs.declared.probes.Event.{Event};
+ghost use Rattle.c_events.specs.declared.events.Event.{Event};
 ghost use Rattle.c_meaning.specs.State.{logged};
 ghost use Rattle.c_world.specs.World.{state_of, Same};
 
 use super::World;
-use atac_base::place::NoMemory;
-use atac_base::probes::{Event, Probes};
+use atac_base::probes::Probes;
+use c_base::place::NoMemory;
+use c_events::events::Event;
 
 impl<'p> World<'p> {
     /// Logs an event, which is pending from then on.

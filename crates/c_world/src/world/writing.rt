@@ -1,5 +1,7 @@
+//! Cells, read and written, with what a definition logs.
+
 ghost use Rattle.std.specs.Prelude.{◌≡◌, List, IfOk, OnErr};
-ghost use Rattle.atac_base.specs.declared.probes.Event.{Event};
+ghost use Rattle.c_events.specs.declared.events.Event.{Event};
 ghost use Rattle.c_store.specs.Cells.{read_of, write_of, IsWritten};
 ghost use Rattle.c_meaning.specs.Firsts.{quiet};
 ghost use Rattle.c_meaning.specs.Declarations.{scalar_written};
@@ -9,12 +11,12 @@ ghost use Rattle.c_world.specs.World.{state_of, answered, Same};
 use super::World;
 use crate::answers::Site;
 use crate::places::{cell_at, whole};
-use atac_base::place::NoMemory;
-use atac_base::probes::Event;
+use c_base::place::NoMemory;
+use c_constants::probes::probe_number;
+use c_events::events::Event;
 use c_meaning::end::Stop;
 use c_store::value::{Fault, Pointer, Value};
 use c_syntax::tree::Named;
-use c_values::probes::probe_number;
 
 impl<'p> World<'p> {
     /// The value in a cell.

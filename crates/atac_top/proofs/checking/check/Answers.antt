@@ -1,7 +1,7 @@
 -- A text that the front end refuses; a program whose sites are refused; and one that is accepted.
 use Rattle.std.proofs.Common.{refl}
 use Rattle.c_syntax.specs.View.{unit_shape}
-use Rattle.c_tree.specs.Tables.{tables_shape}
+use Rattle.c_tables.specs.Tables.{tables_shape}
 use Rattle.atac_top.specs.Programs.{by_front, by_sites}
 use Rattle.atac_top.proofs.Reading.{refused_at, sites_refused}
 use Rattle.atac_top.proofs.checking.check.Goals as goal

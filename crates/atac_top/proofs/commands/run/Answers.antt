@@ -5,7 +5,7 @@ use Rattle.atac_base.specs.Outside.{Said, Agrees}
 use Rattle.atac_top.specs.Words.{Run}
 use Rattle.atac_top.specs.Programs.{Refuses, Runs, section}
 use Rattle.atac_top.specs.Answers.{Answer, text}
-use Rattle.c_routines.specs.Routines.{source_of}
+use Rattle.c_meaning.specs.Sources.{source_of}
 use Rattle.atac_top.proofs.Asked.{run_stopped_first, run_understands, run_refused, run_stopped, run_done, run_text}
 use Rattle.atac_top.proofs.Exits.{wants_memory, wants_at_once, program_stops, not_accepted, fetch_stops, put_breaks, put_ends, known_nothing}
 use Rattle.atac_top.proofs.Reading.{unread, runnable}

@@ -1,8 +1,8 @@
 -- A text that is not accepted; and a program that is.
 use Rattle.std.proofs.Common.{refl, ap, ◌∙◌, subst}
-use Rattle.probe_in.specs.Simulation.{Simulates}
+use Rattle.probe_rules.specs.Simulation.{Simulates}
 use Rattle.c_meaning.specs.Calls.{Source}
-use Rattle.c_routines.specs.Routines.{source_of}
+use Rattle.c_meaning.specs.Sources.{source_of}
 use Rattle.c_sites.specs.Lists.{Lists}
 use Rattle.atac_top.proofs.Reading.{check_refused, check_accepts}
 use Rattle.atac_top.proofs.program.understand.Goals as goal

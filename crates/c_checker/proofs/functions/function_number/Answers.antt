@@ -2,8 +2,9 @@ use Rattle.std.proofs.Common.{◌≡◌, ◌+◌, ◌-◌, ◌&&◌, Bool, true,
 use Rattle.c_syntax.specs.Shape.{TypeOf}
 use Rattle.c_syntax.specs.View.{type_of}
 use Rattle.c_syntax.specs.declared.text.Text.{Text}
-use Rattle.c_tree.specs.State.{is_function, has_name}
-use Rattle.c_tree.specs.Tables.{FunctionShape, function_shape}
+use Rattle.c_tree.specs.State.{is_function}
+use Rattle.c_tables.specs.Rows.{has_name}
+use Rattle.c_tables.specs.Tables.{FunctionShape, function_shape}
 use Rattle.c_checker.proofs.Numbering.{number_here, number_next, number_passed, number_counted, number_none}
 use Rattle.c_checker.proofs.functions.function_number.Goals as goal
 

@@ -1,7 +1,8 @@
 use Rattle.std.proofs.Common.{◌≡◌, ◌+◌, drop, map}
 use Rattle.c_syntax.specs.View.{type_of}
-use Rattle.c_tree.specs.State.{number_from, is_function}
-use Rattle.c_tree.specs.Tables.{tables_shape}
+use Rattle.c_tree.specs.State.{is_function}
+use Rattle.c_tables.specs.Rows.{number_from}
+use Rattle.c_tables.specs.Tables.{tables_shape}
 use Rattle.c_checker.proofs.functions.function_number.Given as goal
 
 -- the functions that are left decide

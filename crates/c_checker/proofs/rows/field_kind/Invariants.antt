@@ -1,6 +1,6 @@
 use Rattle.std.proofs.Common.{◌≡◌, drop, map}
 use Rattle.c_tree.specs.State.{field_type}
-use Rattle.c_tree.specs.Tables.{field_shape}
+use Rattle.c_tables.specs.Tables.{field_shape}
 use Rattle.c_checker.proofs.rows.field_kind.Given as goal
 
 -- the fields that are left decide

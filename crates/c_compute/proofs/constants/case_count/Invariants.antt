@@ -1,5 +1,5 @@
 use Rattle.std.proofs.Common.{◌≡◌, ◌+◌, ◌++◌, drop, map, length, Option}
-use Rattle.atac_base.specs.declared.place.IntKind.{IntKind}
+use Rattle.c_base.specs.declared.place.IntKind.{IntKind}
 use Rattle.c_syntax.specs.View.{item_list, label_shape}
 use Rattle.c_meaning.specs.Constants.{case_constants, label_constants}
 use Rattle.c_compute.proofs.constants.case_count.Given as goal

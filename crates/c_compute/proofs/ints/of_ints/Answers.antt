@@ -1,7 +1,7 @@
 use Rattle.std.proofs.Common.{◌≡◌, ◌∙◌, ◌+ℤ◌, ◌-ℤ◌, not, int_lt, int_le, to_z, of_z, ap, ap₂, arith}
 use Rattle.std.specs.Int.{w32, w64}
 use Rattle.std.proofs.lemmas.Int.{ints, to_z-of_z}
-use Rattle.atac_base.specs.declared.place.IntKind.TheVariants.{Int}
+use Rattle.c_base.specs.declared.place.IntKind.TheVariants.{Int}
 use Rattle.c_arith.specs.declared.ArithBinary.TheVariants as two
 use Rattle.c_arith.specs.Arith.{fitted, truth, binary_result}
 use Rattle.c_syntax.specs.declared.tree.BinaryOp.TheVariants as op

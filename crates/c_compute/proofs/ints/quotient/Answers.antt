@@ -1,5 +1,5 @@
 use Rattle.std.proofs.Common.{◌∙◌, sym, ap}
-use Rattle.atac_base.specs.declared.place.IntKind.TheVariants.{Int}
+use Rattle.c_base.specs.declared.place.IntKind.TheVariants.{Int}
 use Rattle.c_arith.specs.Arith.{fitted}
 use Rattle.c_meaning.specs.Operators.{integer}
 use Rattle.c_compute.proofs.Integers.{zero_quotient, some_quotient, quotient_is}

@@ -1,6 +1,6 @@
 use Rattle.std.proofs.Common.{◌∙◌, sym, ap, arith}
 use Rattle.std.proofs.lemmas.Int.{ints}
-use Rattle.atac_base.specs.declared.place.IntKind.TheVariants.{Int}
+use Rattle.c_base.specs.declared.place.IntKind.TheVariants.{Int}
 use Rattle.c_arith.specs.declared.ArithFault.TheVariants.{ShiftCount}
 use Rattle.c_arith.proofs.Results.{shift_count-below, shift_count-above, shift-fault}
 use Rattle.c_meaning.specs.Operators.{integer}

@@ -1,6 +1,7 @@
 use Rattle.std.proofs.Common.{◌≡◌, ◌+◌, ◌*◌, ◌≤◌, drop, map}
-use Rattle.c_tree.specs.Tables.{tables_shape, field_shape}
-use Rattle.c_compute.specs.Sizes.{field_count, scalar_count, kept}
+use Rattle.c_tables.specs.Tables.{tables_shape, field_shape}
+use Rattle.c_compute.specs.Sizes.{field_count, scalar_count}
+use Rattle.c_base.specs.Kept.{kept}
 use Rattle.c_compute.proofs.layout.+counts.Given as goal
 
 abbrev pub decreases-scalar_count : goal.decreases-scalar_count

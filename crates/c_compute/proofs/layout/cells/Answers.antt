@@ -1,6 +1,6 @@
 use Rattle.std.proofs.Common.{◌≡◌, ◌+◌, suc, length, arith}
 use Rattle.c_syntax.specs.View.{type_of}
-use Rattle.c_tree.specs.Tables.{tables_shape}
+use Rattle.c_tables.specs.Tables.{tables_shape}
 use Rattle.c_compute.proofs.Sizes.{cells_counted}
 use Rattle.c_compute.proofs.layout.cells.Goals as goal
 

@@ -1,6 +1,6 @@
 use Rattle.std.proofs.Common.{◌∙◌, ◌+◌, bytes_eq, sym, ap, arith}
-use Rattle.c_tree.specs.Tables.{tables_shape}
-use Rattle.c_compute.specs.Sizes.{kept}
+use Rattle.c_tables.specs.Tables.{tables_shape}
+use Rattle.c_base.specs.Kept.{kept}
 use Rattle.c_compute.proofs.Offsets.{part_here, part_past}
 use Rattle.c_compute.proofs.layout.part_among.Goals as goal
 

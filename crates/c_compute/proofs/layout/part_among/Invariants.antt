@@ -1,5 +1,5 @@
 use Rattle.std.proofs.Common.{◌≡◌, ◌≤◌, drop, map}
-use Rattle.c_tree.specs.Tables.{tables_shape, field_shape}
+use Rattle.c_tables.specs.Tables.{tables_shape, field_shape}
 use Rattle.c_meaning.specs.Layout.{part_from}
 use Rattle.c_compute.specs.Parts.{kept_part}
 use Rattle.c_compute.proofs.layout.part_among.Given as goal

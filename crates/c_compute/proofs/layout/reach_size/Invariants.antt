@@ -1,5 +1,5 @@
 use Rattle.std.proofs.Common.{suc, ◌-◌}
-use Rattle.c_tree.specs.Tables.{TablesShape}
+use Rattle.c_tables.specs.Tables.{TablesShape}
 use Rattle.c_compute.specs.Sizes.{IsMeasured}
 use Rattle.c_compute.proofs.layout.reach_size.Given as goal
 

@@ -1,4 +1,4 @@
-use Rattle.c_tree.specs.Tables.{tables_shape, variable_shape}
+use Rattle.c_tables.specs.Tables.{tables_shape, variable_shape}
 use Rattle.c_compute.proofs.Measures.{measured_row, measured_set}
 use Rattle.c_compute.proofs.layout.variable_cells.Goals as goal
 

@@ -1,7 +1,7 @@
 use Rattle.std.proofs.Common.{◌≡◌, ◌∙◌, to_z, of_z, sym, ap₂, arith}
 use Rattle.std.specs.Int.{w32, w128}
 use Rattle.std.proofs.lemmas.Int.{ints}
-use Rattle.atac_base.specs.declared.place.IntKind.TheVariants.{Int}
+use Rattle.c_base.specs.declared.place.IntKind.TheVariants.{Int}
 use Rattle.c_meaning.specs.Operators.{of_integers}
 use Rattle.c_compute.proofs.Integers.{int_test, narrow_is}
 use Rattle.c_compute.proofs.operators.of_numbers.Goals as goal

@@ -1,7 +1,7 @@
 use Rattle.std.proofs.Common.{◌∙◌, sym, ap}
 use Rattle.std.specs.Int.{w128}
 use Rattle.std.proofs.lemmas.Int.{to_z-of_z}
-use Rattle.atac_base.specs.declared.place.IntKind.TheVariants.{Int}
+use Rattle.c_base.specs.declared.place.IntKind.TheVariants.{Int}
 use Rattle.c_arith.specs.Arith.{wrap}
 use Rattle.c_compute.proofs.Integers.{wrap_held, int_test}
 use Rattle.c_compute.proofs.operators.wrapped.Goals as goal

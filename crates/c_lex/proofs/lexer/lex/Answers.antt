@@ -1,5 +1,5 @@
 use Rattle.std.proofs.Common.{◌∙◌, ap, sym, arith}
-use Rattle.c_cut.proofs.Spelled.{are_bytes}
+use Rattle.c_lex_pieces.proofs.Spelled.{are_bytes}
 use Rattle.c_lex.specs.Scan.{scanned}
 use Rattle.c_lex.proofs.Scanning.{whole}
 use Rattle.c_lex.proofs.Soundness.{given_is_sound}

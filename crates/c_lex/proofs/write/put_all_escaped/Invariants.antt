@@ -1,5 +1,5 @@
 use Rattle.std.proofs.Common.{◌≡◌, ◌++◌, drop}
-use Rattle.c_cut.specs.Written.{values_bytes}
+use Rattle.c_lex_pieces.specs.Written.{values_bytes}
 use Rattle.c_lex.proofs.write.put_all_escaped.Given as goal
 
 abbrev pub invariant-loop-b : goal.invariant-loop-b

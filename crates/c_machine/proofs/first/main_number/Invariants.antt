@@ -1,6 +1,6 @@
 use Rattle.std.proofs.Common.{◌≡◌, ◌+◌, drop}
-use Rattle.c_tree.specs.Tables.{tables_shape}
-use Rattle.c_tree.specs.State.{number_from}
+use Rattle.c_tables.specs.Tables.{tables_shape}
+use Rattle.c_tables.specs.Rows.{number_from}
 use Rattle.c_tree.specs.Units.{is_main}
 use Rattle.c_machine.proofs.first.main_number.Given as goal
 

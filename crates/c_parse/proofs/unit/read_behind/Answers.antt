@@ -2,8 +2,8 @@ use Rattle.std.proofs.Common.{rules, Some, None, subst}
 use Rattle.std.proofs.lemmas.Result.{IfOk-weaker}
 use Rattle.c_syntax.specs.View.{spec_list, declarator_shape, external_shape}
 use Rattle.c_grammar.specs.Look.{Finds}
-use Rattle.c_forms.specs.StmtParts.{function_parts}
-use Rattle.c_forms.proofs.StmtSteps.{external_defined}
+use Rattle.c_grammar_stmt.specs.StmtParts.{function_parts}
+use Rattle.c_grammar_stmt.proofs.StmtSteps.{external_defined}
 use Rattle.c_parse.proofs.unit.read_behind.Goals as goal
 
 pub returns-then-begins_function-clause-found : goal.returns-then-begins_function-clause-found

@@ -1,5 +1,5 @@
 use Rattle.std.proofs.Common.{◌≤◌, length}
-use Rattle.c_forms.specs.StmtParts.{ExternalsFrom}
+use Rattle.c_grammar_stmt.specs.StmtParts.{ExternalsFrom}
 use Rattle.c_parse.proofs.unit.read_externals.Given as goal
 
 abbrev pub invariant-loop-rest : goal.invariant-loop-rest

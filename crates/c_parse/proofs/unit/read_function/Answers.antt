@@ -3,8 +3,8 @@ use Rattle.std.proofs.lemmas.Result.{IfOk-weaker}
 use Rattle.c_syntax.specs.View.{spec_list, declarator_shape, compound_shape}
 use Rattle.c_syntax.specs.Shape.{defined}
 use Rattle.c_grammar.specs.Look.{Finds}
-use Rattle.c_forms.specs.StmtParts.{function_parts}
-use Rattle.c_forms.proofs.StmtSteps.{function_bare}
+use Rattle.c_grammar_stmt.specs.StmtParts.{function_parts}
+use Rattle.c_grammar_stmt.proofs.StmtSteps.{function_bare}
 use Rattle.c_parse.proofs.UnitRead.{function_read, function_unread}
 use Rattle.c_parse.proofs.unit.read_function.Goals as goal
 

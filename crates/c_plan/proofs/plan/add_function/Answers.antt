@@ -1,5 +1,6 @@
 use Rattle.std.proofs.Common.{ap, subst, sym}
-use Rattle.c_routines.specs.Routines.{source_of, routine_of}
+use Rattle.c_plan.specs.Routines.{routine_of}
+use Rattle.c_meaning.specs.Sources.{source_of}
 use Rattle.c_plan.specs.Extents.{Begins}
 use Rattle.c_plan.specs.Starts.{IsStart}
 use Rattle.c_plan.proofs.Planned.{added, added_none, added_some, begins_same}

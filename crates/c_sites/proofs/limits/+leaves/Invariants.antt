@@ -1,5 +1,5 @@
 use Rattle.std.proofs.Common.{◌≡◌, ◌+◌, ◌*◌, ◌≤◌, drop, map}
-use Rattle.c_tree.specs.Tables.{tables_shape, field_shape}
+use Rattle.c_tables.specs.Tables.{tables_shape, field_shape}
 use Rattle.c_sites.specs.Counts.{field_counts, leaf_count}
 use Rattle.c_sites.specs.Limits.{kept}
 use Rattle.c_sites.proofs.limits.+leaves.Given as goal

@@ -1,6 +1,6 @@
 use Rattle.std.proofs.Common.{◌≡◌, drop, map}
-use Rattle.c_tree.specs.Tables.{tables_shape}
-use Rattle.c_items.specs.ItemView.{item_shape}
+use Rattle.c_tables.specs.Tables.{tables_shape}
+use Rattle.c_walk.specs.ItemView.{item_shape}
 use Rattle.c_sites.specs.Limits.{no_counts, excess}
 use Rattle.c_sites.proofs.limits.excess.Given as goal
 

@@ -1,8 +1,8 @@
 use Rattle.std.proofs.Common.{◌≡◌, ◌∷◌, length, ap, map, subst, arith}
 use Rattle.std.specs.List.{AllByRecursion}
 use Rattle.std.specs.Vec.Iter.{into_iter_items}
-use Rattle.c_tree.specs.Tables.{tables_shape}
-use Rattle.c_items.specs.ItemView.{item_shape}
+use Rattle.c_tables.specs.Tables.{tables_shape}
+use Rattle.c_walk.specs.ItemView.{item_shape}
 use Rattle.c_sites.specs.Few.{HasShortOwner}
 use Rattle.c_sites.specs.Numbers.{names_of}
 use Rattle.c_sites.specs.ListsView.{lists_shape}

@@ -1,6 +1,6 @@
 use Rattle.std.proofs.Common.{◌≡◌, map, take, length, refl, sym, ap, ◌∙◌, subst, arith}
 use Rattle.c_syntax.specs.View.{type_of}
-use Rattle.c_tree.specs.Tables.{tables_shape, field_shape}
+use Rattle.c_tables.specs.Tables.{tables_shape, field_shape}
 use Rattle.c_sites.specs.Names.{leaves, field_leaves}
 use Rattle.c_sites.specs.SpellingView.{IsNamed}
 use Rattle.c_sites.proofs.Spellings.{fields_named, fields_taken, deep_named}

@@ -1,5 +1,5 @@
 use Rattle.std.proofs.Common.{◌+◌, ◌*◌, map, take}
-use Rattle.c_tree.specs.Tables.{tables_shape, field_shape}
+use Rattle.c_tables.specs.Tables.{tables_shape, field_shape}
 use Rattle.c_sites.specs.Names.{field_leaves, leaves}
 use Rattle.c_sites.specs.SpellingView.{IsNamed}
 use Rattle.c_sites.proofs.naming.+leaves.Given as goal

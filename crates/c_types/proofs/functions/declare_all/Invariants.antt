@@ -1,7 +1,7 @@
 use Rattle.std.proofs.Common.{◌≡◌, drop, map}
 use Rattle.c_tree.specs.Units.{with_variables}
 use Rattle.c_checker.specs.CheckerView.{state_of}
-use Rattle.c_declare.specs.GivenView.{parameter_of}
+use Rattle.c_types_decl.specs.GivenView.{parameter_of}
 use Rattle.c_types.proofs.functions.declare_all.Given as goal
 
 -- the parameters that are left lead to the same

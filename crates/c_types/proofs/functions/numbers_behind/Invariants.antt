@@ -1,6 +1,6 @@
 use Rattle.std.proofs.Common.{◌≡◌, ◌+◌, ◌≤◌, ◌++◌, length, drop, map}
 use Rattle.c_tree.specs.Units.{numbers_from}
-use Rattle.c_declare.specs.GivenView.{parameter_of}
+use Rattle.c_types_decl.specs.GivenView.{parameter_of}
 use Rattle.c_types.proofs.functions.numbers_behind.Given as goal
 
 -- the numbers so far and those of the parameters that are left are those of all

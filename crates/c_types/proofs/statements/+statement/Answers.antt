@@ -1,5 +1,5 @@
 use Rattle.std.proofs.Common.{arith, rules, ap, ◌∙◌}
-use Rattle.c_kinds.specs.Kinds.{type_in}
+use Rattle.c_type_rules.specs.Kinds.{type_in}
 use Rattle.std.specs.declared.boxed.Box.{Box}
 use Rattle.std.specs.declared.alloc.Global.{Global}
 use Rattle.c_syntax.specs.declared.tree.Stmt.{Stmt}

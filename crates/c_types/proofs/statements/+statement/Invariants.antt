@@ -1,5 +1,5 @@
 use Rattle.std.proofs.Common.{◌≡◌, ◌+◌, ◌*◌, ◌≤◌, length, take, drop}
-use Rattle.c_kinds.specs.Kinds.{type_in}
+use Rattle.c_type_rules.specs.Kinds.{type_in}
 use Rattle.c_syntax.specs.View.{stmt_shape, form_shape, item_list, compound_shape}
 use Rattle.c_tree.specs.Stating.{type_items}
 use Rattle.c_checker.specs.CheckerView.{state_of}

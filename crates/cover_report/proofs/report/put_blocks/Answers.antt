@@ -1,7 +1,7 @@
 -- A further block's line and count.
 use Rattle.std.proofs.Common.{arith}
 use Rattle.cover_report.specs.Texts.{known}
-use Rattle.cover_report.proofs.Lines.{next_lines, next_count, one_small}
+use Rattle.cover_report.proofs.BlockLines.{next_lines, next_count, one_small}
 use Rattle.cover_report.proofs.report.put_blocks.Goals as goal
 
 pub loop-k-preserved : goal.loop-k-preserved

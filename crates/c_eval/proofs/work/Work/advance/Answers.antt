@@ -1,6 +1,6 @@
 use Rattle.std.proofs.Common.{◌≡◌, ◌∙◌, ◌+◌, ◌*◌, [], ap, subst}
 use Rattle.std.proofs.lemmas.Result.{err_from_is_err_and}
-use Rattle.c_tree.specs.Tables.{tables_shape}
+use Rattle.c_tables.specs.Tables.{tables_shape}
 use Rattle.c_world.specs.World.{state_of, tables_of}
 use Rattle.c_eval.specs.Rest.{rest, rest_after, size}
 use Rattle.c_eval.specs.Advance.{advance_of}

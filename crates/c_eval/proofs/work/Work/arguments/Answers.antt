@@ -1,14 +1,15 @@
 use Rattle.std.proofs.Common.{◌≡◌, ◌∙◌, ◌++◌, ◌∷◌, ap, sym, refl, map, arith}
 use Rattle.c_syntax.specs.View.{note_shape, node_shape, node_list, type_of}
-use Rattle.c_tree.specs.Tables.{tables_shape}
+use Rattle.c_tables.specs.Tables.{tables_shape}
 use Rattle.c_meaning.specs.Firsts.{quiet}
 use Rattle.c_meaning.specs.Results.{then_do}
 use Rattle.c_meaning.specs.Builtins.{called, as_parameter}
 use Rattle.c_meaning.specs.Expressions.{arguments, gives}
 use Rattle.c_world.specs.World.{state_of}
 use Rattle.c_eval.specs.declared.frame.Wait.TheVariants as wait
-use Rattle.c_eval.specs.declared.frame.Reply.TheVariants as reply
-use Rattle.c_eval.specs.Rest.{replied, value, Val, waiting, all_do, answer, left, to_value, weights}
+use Rattle.c_eval_once.specs.declared.reply.Reply.TheVariants as reply
+use Rattle.c_eval.specs.Rest.{Val, waiting, all_do, answer, left, to_value, weights}
+use Rattle.c_eval_once.specs.Parts.{replied, value}
 use Rattle.c_eval.proofs.Opened.{no_arguments, argument_opens, argument_taken}
 use Rattle.c_eval.proofs.Roles.{kept_further}
 use Rattle.c_eval.proofs.work.Work.arguments.Goals as goal

@@ -1,7 +1,7 @@
 use Rattle.std.proofs.Common.{◌≡◌, ◌≤◌, ◌++◌, List, map, length}
-use Rattle.atac_base.specs.declared.probes.Event.{Event}
+use Rattle.c_events.specs.declared.events.Event.{Event}
 use Rattle.c_syntax.specs.View.{note_shape, node_list, type_of}
-use Rattle.c_tree.specs.Tables.{tables_shape}
+use Rattle.c_tables.specs.Tables.{tables_shape}
 use Rattle.c_meaning.specs.Results.{then_do}
 use Rattle.c_meaning.specs.Knot.{Knot}
 use Rattle.c_meaning.specs.Builtins.{called}
@@ -9,7 +9,7 @@ use Rattle.c_meaning.specs.Expressions.{arguments}
 use Rattle.c_meaning.specs.Firsts.{quiet}
 use Rattle.c_world.specs.World.{state_of}
 use Rattle.c_eval.specs.Rest.{left, to_value}
-use Rattle.c_eval.specs.Forms.{Kept}
+use Rattle.c_eval_once.specs.Forms.{Kept}
 use Rattle.c_eval.proofs.work.Work.arguments.Given as goal
 
 abbrev pub decreases-loop-first : goal.decreases-loop-first

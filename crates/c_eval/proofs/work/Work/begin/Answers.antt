@@ -1,8 +1,9 @@
 use Rattle.std.proofs.Common.{◌∙◌, ap, sym}
-use Rattle.c_tree.specs.Tables.{tables_shape}
+use Rattle.c_tables.specs.Tables.{tables_shape}
 use Rattle.c_meaning.specs.Results.{then_do}
 use Rattle.c_world.specs.World.{state_of}
-use Rattle.c_eval.specs.Rest.{left, to_value, replied}
+use Rattle.c_eval.specs.Rest.{left, to_value}
+use Rattle.c_eval_once.specs.Parts.{replied}
 use Rattle.c_eval.proofs.Opened.{call_opens, reply_then}
 use Rattle.c_eval.proofs.work.Work.begin.Goals as goal
 

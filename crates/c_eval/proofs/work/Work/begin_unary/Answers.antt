@@ -1,5 +1,5 @@
 use Rattle.std.proofs.Common.{◌∙◌, refl, sym}
-use Rattle.c_tree.specs.Tables.{tables_shape}
+use Rattle.c_tables.specs.Tables.{tables_shape}
 use Rattle.c_world.specs.World.{state_of}
 use Rattle.c_eval.specs.Rest.{left}
 use Rattle.c_eval.proofs.Opened.{pointed_opens, unary_opens}

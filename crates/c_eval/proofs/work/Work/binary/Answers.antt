@@ -1,14 +1,15 @@
 use Rattle.std.proofs.Common.{◌≡◌, ◌∙◌, ap}
 use Rattle.c_syntax.specs.View.{node_shape}
-use Rattle.c_tree.specs.Tables.{tables_shape}
+use Rattle.c_tables.specs.Tables.{tables_shape}
 use Rattle.c_meaning.specs.Results.{then_do}
 use Rattle.c_world.specs.World.{state_of}
 use Rattle.c_eval.specs.declared.frame.Wait.TheVariants as wait
 use Rattle.c_eval.proofs.Opened.{second_opens}
-use Rattle.c_eval.proofs.Once.{once_given}
+use Rattle.c_eval_once.proofs.Once.{once_given}
 use Rattle.c_meaning.specs.Expressions.{gives}
-use Rattle.c_eval.specs.declared.frame.Reply.TheVariants as reply
-use Rattle.c_eval.specs.Rest.{replied, value, Val, waiting, left}
+use Rattle.c_eval_once.specs.declared.reply.Reply.TheVariants as reply
+use Rattle.c_eval.specs.Rest.{Val, waiting, left}
+use Rattle.c_eval_once.specs.Parts.{replied, value}
 use Rattle.c_eval.proofs.work.Work.binary.Goals as goal
 
 pub returns-in_ok-step-in-None-clause-rest : goal.returns-in_ok-step-in-None-clause-rest

@@ -1,8 +1,9 @@
-use Rattle.c_tree.specs.Tables.{tables_shape}
+use Rattle.c_tables.specs.Tables.{tables_shape}
 use Rattle.c_syntax.specs.View.{node_shape}
 use Rattle.c_meaning.specs.declared.end.Stop.TheVariants as stop
 use Rattle.c_world.specs.World.{state_of}
-use Rattle.c_eval.specs.Rest.{value, left, to_value}
+use Rattle.c_eval.specs.Rest.{left, to_value}
+use Rattle.c_eval_once.specs.Parts.{value}
 use Rattle.c_eval.proofs.Steps.{stops_at, lower_up}
 use Rattle.c_eval.proofs.Roles.{value_no_turn}
 use Rattle.std.proofs.Common.{arith}

@@ -1,10 +1,11 @@
 use Rattle.std.proofs.Common.{◌∙◌, sym, refl, arith}
-use Rattle.c_tree.specs.Tables.{tables_shape}
+use Rattle.c_tables.specs.Tables.{tables_shape}
 use Rattle.c_syntax.specs.View.{node_shape}
 use Rattle.c_store.specs.declared.value.Fault.TheVariants.{NoResult}
 use Rattle.c_meaning.specs.declared.end.Stop.TheVariants as stop
 use Rattle.c_world.specs.World.{state_of}
-use Rattle.c_eval.specs.Rest.{place, left, to_spot}
+use Rattle.c_eval.specs.Rest.{left, to_spot}
+use Rattle.c_eval_once.specs.Parts.{place}
 use Rattle.c_eval.proofs.Steps.{stops_at, lower_one}
 use Rattle.c_eval.proofs.Roles.{not_place}
 use Rattle.c_eval.proofs.work.Work.enter_place.Goals as goal

@@ -1,8 +1,8 @@
 use Rattle.std.proofs.Common.{◌∙◌, ap, sym}
-use Rattle.c_tree.specs.Tables.{tables_shape}
+use Rattle.c_tables.specs.Tables.{tables_shape}
 use Rattle.c_world.specs.World.{state_of}
 use Rattle.c_eval.specs.Rest.{Val, answer, all_do}
-use Rattle.c_eval.specs.Forms.{told}
+use Rattle.c_eval_once.specs.Forms.{told}
 use Rattle.c_eval.proofs.Roles.{give_told, probe_weight, kept_further}
 use Rattle.c_eval.proofs.work.Work.give.Goals as goal
 

@@ -1,10 +1,10 @@
 use Rattle.std.proofs.Common.{◌≡◌, List, length}
-use Rattle.atac_base.specs.declared.probes.Event.{Event}
-use Rattle.c_tree.specs.Tables.{TablesShape}
+use Rattle.c_events.specs.declared.events.Event.{Event}
+use Rattle.c_tables.specs.Tables.{TablesShape}
 use Rattle.c_meaning.specs.Knot.{Knot}
 use Rattle.c_world.specs.World.{state_of}
 use Rattle.c_eval.specs.Rest.{Val, left, weights}
-use Rattle.c_eval.specs.Forms.{Kept}
+use Rattle.c_eval_once.specs.Forms.{Kept}
 use Rattle.c_eval.proofs.work.Work.give.Given as goal
 
 abbrev pub decreases-loop-frame : goal.decreases-loop-frame

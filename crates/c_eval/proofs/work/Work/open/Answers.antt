@@ -1,9 +1,10 @@
 use Rattle.std.proofs.Common.{◌∙◌, ap, sym}
 use Rattle.c_syntax.specs.View.{node_shape}
-use Rattle.c_tree.specs.Tables.{tables_shape}
+use Rattle.c_tables.specs.Tables.{tables_shape}
 use Rattle.c_meaning.specs.Results.{then_do}
 use Rattle.c_world.specs.World.{state_of}
-use Rattle.c_eval.specs.Rest.{value, left, to_value}
+use Rattle.c_eval.specs.Rest.{left, to_value}
+use Rattle.c_eval_once.specs.Parts.{value}
 use Rattle.c_eval.specs.Forms.{passed_value}
 use Rattle.c_eval.proofs.work.Work.open.Goals as goal
 

@@ -4,7 +4,7 @@ use Rattle.c_syntax.specs.View.{node_shape, probe_shape}
 use Rattle.c_syntax.proofs.Open.{select_open}
 use Rattle.c_world.specs.World.{state_of}
 use Rattle.c_eval.proofs.Roles.{test_opens, select_opens, probe_pushed}
-use Rattle.c_eval.proofs.Told.{probe_form}
+use Rattle.c_eval_once.proofs.Told.{probe_form}
 use Rattle.c_eval.proofs.work.Work.pass.Goals as goal
 
 pub loop-inner-preserved-in-Test-1 : goal.loop-inner-preserved-in-Test-1

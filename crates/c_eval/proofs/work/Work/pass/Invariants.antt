@@ -1,12 +1,13 @@
 use Rattle.std.proofs.Common.{◌≡◌, List}
-use Rattle.atac_base.specs.declared.probes.Event.{Event}
+use Rattle.c_events.specs.declared.events.Event.{Event}
 use Rattle.c_syntax.specs.View.{node_shape}
-use Rattle.c_tree.specs.Tables.{TablesShape}
+use Rattle.c_tables.specs.Tables.{TablesShape}
 use Rattle.c_meaning.specs.Results.{then_do}
 use Rattle.c_meaning.specs.Knot.{Knot}
 use Rattle.c_world.specs.World.{state_of}
-use Rattle.c_eval.specs.Rest.{value, to_value, left, weights}
-use Rattle.c_eval.specs.Forms.{Kept}
+use Rattle.c_eval.specs.Rest.{to_value, left, weights}
+use Rattle.c_eval_once.specs.Parts.{value}
+use Rattle.c_eval_once.specs.Forms.{Kept}
 use Rattle.c_eval.proofs.work.Work.pass.Given as goal
 
 abbrev pub invariant-loop-inner : goal.invariant-loop-inner

@@ -1,5 +1,5 @@
 use Rattle.std.proofs.Common.{◌∙◌}
-use Rattle.c_tree.specs.Tables.{tables_shape}
+use Rattle.c_tables.specs.Tables.{tables_shape}
 use Rattle.c_world.specs.World.{state_of}
 use Rattle.c_eval.proofs.Roles.{read_opens}
 use Rattle.c_eval.proofs.work.Work.read.Goals as goal

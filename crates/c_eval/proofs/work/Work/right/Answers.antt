@@ -1,10 +1,11 @@
 use Rattle.std.proofs.Common.{◌∙◌, ap}
 use Rattle.c_syntax.specs.View.{node_shape}
-use Rattle.c_tree.specs.Tables.{tables_shape}
+use Rattle.c_tables.specs.Tables.{tables_shape}
 use Rattle.c_meaning.specs.Results.{then_do}
 use Rattle.c_world.specs.World.{state_of}
 use Rattle.c_eval.specs.declared.frame.Wait.TheVariants as wait
-use Rattle.c_eval.specs.Rest.{value, Val, waiting, left}
+use Rattle.c_eval.specs.Rest.{Val, waiting, left}
+use Rattle.c_eval_once.specs.Parts.{value}
 use Rattle.c_eval.proofs.work.Work.right.Goals as goal
 
 pub returns-in_ok-step-in-None-clause-rest : goal.returns-in_ok-step-in-None-clause-rest

@@ -1,6 +1,6 @@
 use Rattle.std.proofs.Common.{◌∙◌, ◌++◌, ◌∷◌, [], ap, map, drop}
 use Rattle.c_syntax.specs.View.{note_shape, node_list, type_of}
-use Rattle.c_tree.specs.Tables.{tables_shape}
+use Rattle.c_tables.specs.Tables.{tables_shape}
 use Rattle.c_meaning.specs.Firsts.{quiet}
 use Rattle.c_meaning.specs.Results.{then_do}
 use Rattle.c_meaning.specs.Builtins.{called}

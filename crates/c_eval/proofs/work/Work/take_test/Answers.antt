@@ -1,6 +1,6 @@
 use Rattle.std.proofs.Common.{◌∙◌, ap, sym}
 use Rattle.c_syntax.specs.View.{expr_shape, node_shape}
-use Rattle.c_tree.specs.Tables.{tables_shape}
+use Rattle.c_tables.specs.Tables.{tables_shape}
 use Rattle.c_world.specs.World.{state_of}
 use Rattle.c_eval.specs.Rest.{left}
 use Rattle.c_eval.proofs.Opened.{and_taken, or_taken}

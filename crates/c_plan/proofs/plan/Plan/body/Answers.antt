@@ -1,4 +1,4 @@
-use Rattle.c_routines.specs.Routines.{routine_of}
+use Rattle.c_plan.specs.Routines.{routine_of}
 use Rattle.c_plan.proofs.Planned.{body_listed}
 use Rattle.c_plan.proofs.plan.Plan.body.Goals as goal
 

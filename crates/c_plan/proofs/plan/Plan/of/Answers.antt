@@ -1,6 +1,6 @@
 use Rattle.std.proofs.Common.{◌≤◌, length, subst, arith}
-use Rattle.c_tree.specs.Tables.{tables_shape}
-use Rattle.c_routines.specs.Routines.{source_of}
+use Rattle.c_tables.specs.Tables.{tables_shape}
+use Rattle.c_meaning.specs.Sources.{source_of}
 use Rattle.c_plan.proofs.Planned.{all_planned}
 use Rattle.c_plan.proofs.plan.Plan.of.Goals as goal
 

@@ -1,5 +1,5 @@
 use Rattle.std.proofs.Common.{◌≡◌, ◌+◌, length}
-use Rattle.c_routines.specs.Routines.{source_of}
+use Rattle.c_meaning.specs.Sources.{source_of}
 use Rattle.c_plan.specs.Starts.{AreStarts}
 use Rattle.c_plan.proofs.plan.Plan.of.Given as goal
 

@@ -1,5 +1,6 @@
 use Rattle.std.proofs.Common.{arith}
-use Rattle.c_routines.specs.Routines.{source_of, routine_of}
+use Rattle.c_plan.specs.Routines.{routine_of}
+use Rattle.c_meaning.specs.Sources.{source_of}
 use Rattle.c_plan.proofs.Planned.{found, within}
 use Rattle.c_plan.proofs.plan.Plan.start_of.Goals as goal
 

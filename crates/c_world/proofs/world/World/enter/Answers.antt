@@ -1,8 +1,8 @@
 use Rattle.std.proofs.Common.{◌<◌, length, refl, ap, arith}
 use Rattle.c_syntax.specs.View.{decl_form_shape}
-use Rattle.c_tree.specs.Tables.{tables_shape}
+use Rattle.c_tables.specs.Tables.{tables_shape}
 use Rattle.c_tree.specs.declared.program.Program.{Program}
-use Rattle.c_routines.specs.Routines.{routine_of}
+use Rattle.c_plan.specs.Routines.{routine_of}
 use Rattle.c_world.specs.World.{state_of, tables_of, answered}
 use Rattle.c_world.proofs.Given.{entered_at}
 use Rattle.c_world.proofs.world.World.enter.Goals as goal

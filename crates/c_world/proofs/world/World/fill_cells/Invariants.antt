@@ -1,5 +1,5 @@
 use Rattle.std.proofs.Common.{◌≡◌, List, length}
-use Rattle.atac_base.specs.declared.probes.Event.{Event}
+use Rattle.c_events.specs.declared.events.Event.{Event}
 use Rattle.c_world.specs.Steps.{filled_at}
 use Rattle.c_world.specs.World.{state_of, Same}
 use Rattle.c_world.proofs.world.World.fill_cells.Given as goal

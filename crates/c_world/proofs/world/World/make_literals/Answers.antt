@@ -1,8 +1,8 @@
 use Rattle.std.proofs.Common.{◌≡◌, ◌<◌, ◌∙◌, length, ap, sym}
 use Rattle.std.specs.Option.{is_some}
 use Rattle.std.proofs.Common.{true, false}
-use Rattle.c_tree.specs.declared.tables.Tables as tables
-use Rattle.c_tree.specs.Tables.{tables_shape}
+use Rattle.c_tables.specs.declared.tables.Tables as tables
+use Rattle.c_tables.specs.Tables.{tables_shape}
 use Rattle.c_tree.specs.declared.program.Program.{Program}
 use Rattle.c_world.specs.World.{state_of, tables_of}
 use Rattle.c_world.proofs.Literals.{within, literals_stop, literals_next}

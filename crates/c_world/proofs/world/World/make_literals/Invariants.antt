@@ -1,5 +1,5 @@
 use Rattle.std.proofs.Common.{◌≡◌, List, drop}
-use Rattle.atac_base.specs.declared.probes.Event.{Event}
+use Rattle.c_events.specs.declared.events.Event.{Event}
 use Rattle.c_meaning.specs.Runs.{literals_made}
 use Rattle.c_world.specs.World.{state_of, tables_of, Same}
 use Rattle.c_world.proofs.world.World.make_literals.Given as goal

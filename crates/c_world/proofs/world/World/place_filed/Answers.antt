@@ -1,6 +1,6 @@
 use Rattle.std.proofs.Common.{replicate, None, subst}
-use Rattle.c_tree.specs.declared.tables.Tables as tables
-use Rattle.c_tree.specs.Tables.{tables_shape}
+use Rattle.c_tables.specs.declared.tables.Tables as tables
+use Rattle.c_tables.specs.Tables.{tables_shape}
 use Rattle.c_compute.specs.Sizes.{IsMeasured}
 use Rattle.c_world.proofs.Made.{filed_on}
 use Rattle.c_world.proofs.world.World.place_filed.Goals as goal

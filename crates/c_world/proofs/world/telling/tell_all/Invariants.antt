@@ -1,5 +1,5 @@
 use Rattle.std.proofs.Common.{List, ◌++◌, take}
-use Rattle.atac_base.specs.declared.probes.Event.{Event}
+use Rattle.c_events.specs.declared.events.Event.{Event}
 use Rattle.c_world.proofs.world.telling.tell_all.Given as goal
 
 abbrev pub invariant-loop-event : goal.invariant-loop-event

@@ -1,7 +1,0 @@
-use Rattle.std.proofs.Common.{◌≡◌, drop, false}
-use Rattle.c_cut.specs.Front.{comment_end}
-use Rattle.c_cut.proofs.Steps.{add_more}
-use Rattle.c_cut.proofs.front.comment_size.Given as goal
-
-abbrev pub invariant-loop-i : goal.invariant-loop-i
-invariant-loop-i l = add_more l.i (comment_end l.star (drop l.i l.text)) ≡ comment_end false l.text

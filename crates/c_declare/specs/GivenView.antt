@@ -1,9 +1,0 @@
--- A parameter of a function, wherever its type lies in memory.
-use Rattle.std.specs.Prelude.{Option}
-use Rattle.c_syntax.specs.declared.text.Text.{Text}
-use Rattle.c_syntax.specs.Shape.{TypeOf}
-use Rattle.c_kinds.specs.Kinds.{type_in}
-use Rattle.c_declare.specs.declared.functions.Parameter.{Parameter}
-
-abbrev pub parameter_of : Parameter → Text × Option TypeOf
-parameter_of p = (p.name, type_in p.kind)

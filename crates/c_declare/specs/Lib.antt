@@ -1,4 +1,0 @@
-pub mod GivenView
-pub mod Steps
-pub mod Rows
-pub mod Entities

@@ -1,7 +1,0 @@
--- Specifiers, wherever the type among them lies in memory.
-use Rattle.c_kinds.specs.Kinds.{type_in}
-use Rattle.c_tree.specs.Parts as parts
-use Rattle.c_declarer.specs.declared.specifiers.Spelled.{Spelled}
-
-abbrev pub spelled_of : Spelled → parts.Spelled
-spelled_of a = record { words = a.words; tagged = type_in a.tagged }

@@ -1,6 +1,0 @@
-use Rattle.std.proofs.Common.{refl}
-use Rattle.c_eval.proofs.Once.{no_turns}
-use Rattle.c_eval.proofs.at_once.place.Goals as goal
-
-pub returns-then-not-turn-clause-turns : goal.returns-then-not-turn-clause-turns
-returns-then-not-turn-clause-turns c = no_turns c.args.world.now c.turn.new.self (c.if-not-turn.ensures.none refl)

@@ -1,0 +1,4 @@
+//! The events of a run, as data.
+#![tactic(auto)]
+
+pub mod events;

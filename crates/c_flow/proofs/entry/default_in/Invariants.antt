@@ -1,7 +1,0 @@
-use Rattle.std.proofs.Common.{◌≡◌, drop, map}
-use Rattle.c_syntax.specs.View.{label_shape}
-use Rattle.c_meaning.specs.Statements.{has_default}
-use Rattle.c_flow.proofs.entry.default_in.Given as goal
-
-abbrev pub invariant-loop-label : goal.invariant-loop-label
-invariant-loop-label l = has_default (map label_shape (drop l.label-index l.labels)) ≡ has_default (map label_shape l.labels)

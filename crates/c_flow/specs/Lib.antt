@@ -1,3 +1,0 @@
-pub mod Todo
-pub mod Forms
-pub mod Kept

@@ -1,5 +1,0 @@
-pub mod Counts
-pub mod Demanded
-pub mod Enough
-pub mod Items
-pub mod Listed

@@ -1,4 +1,0 @@
-pub mod Braces
-pub mod Fronts
-pub mod SlotsView
-pub mod ValueView

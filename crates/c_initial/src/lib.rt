@@ -1,7 +1,0 @@
-//! Initialisers (C89, 3.5.7).
-#![tactic(auto)]
-
-pub mod initialisers;
-pub mod lengths;
-mod slots;
-mod values;

@@ -1,3 +1,0 @@
-pub mod Filing
-pub mod Kinds
-pub mod Cells

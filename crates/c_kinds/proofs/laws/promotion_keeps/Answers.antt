@@ -1,5 +1,0 @@
-use Rattle.c_kinds.proofs.Ranges.{promote_keeps}
-use Rattle.c_kinds.proofs.laws.promotion_keeps.Goals as goal
-
-pub returns : goal.returns
-returns c = promote_keeps c.args.kind

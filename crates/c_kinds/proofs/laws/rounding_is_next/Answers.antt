@@ -1,5 +1,0 @@
-use Rattle.c_kinds.proofs.Rounded.{is_next_multiple}
-use Rattle.c_kinds.proofs.laws.rounding_is_next.Goals as goal
-
-pub returns : goal.returns
-returns c = is_next_multiple c.args.align

@@ -1,5 +1,0 @@
-use Rattle.c_kinds.proofs.Turned as law
-use Rattle.c_kinds.proofs.laws.void_is_none.Goals as goal
-
-pub returns : goal.returns
-returns c = law.void_is_none c.args.op

@@ -1,0 +1,226 @@
+//! Statements, begun (C89, 3.6).
+
+ghost use Rattle.std.specs.Prelude.{◌≡◌, ◌+◌, ◌*◌, ◌<◌, ◌≤◌, false, IfOk, OnOk};
+ghost use Rattle.c_syntax.specs.View.{node_shape, stmt_shape, form_shape, maybe_node, item_list};
+ghost use Rattle.c_syntax.specs.Shape.{simply, return};
+ghost use Rattle.c_meaning.specs.Firsts.{quiet};
+ghost use Rattle.c_meaning.specs.Results.{turn, then_do};
+ghost use Rattle.c_meaning.specs.Statements.{scoped, flow, form_flow};
+ghost use Rattle.c_plan.specs.Parts.{names_ahead};
+ghost use Rattle.c_machine.specs.Todo.{again_flow, loop_of, block_flow, LeavesIn, UsesIn, Tied, OnMore, open_scopes, all_weights, machine_size};
+ghost use Rattle.c_world.specs.World.{Same};
+
+use super::Machine;
+use super::leaving::untyped;
+use crate::marks::log_marks;
+use crate::parts::{Purpose, Step, Use, Waiting};
+use c_base::place::NoMemory;
+use c_compute::operators::is_true;
+use c_eval_once::direct::direct;
+use c_eval_once::reply::Reply;
+use c_meaning::end::{Flow, Stop};
+use c_plan::block::Block;
+use c_plan::placed::Placed;
+use c_plan::plan::Plan;
+use c_syntax::tree::{Node, StmtForm};
+use c_world::world::World;
+
+impl<'p> Machine<'p> {
+    // A statement (C89, 3.6): its probes, and then its turn.
+    pub(super) fn open(
+        &mut self,
+        plan: &'p Plan<'p>,
+        world: &mut World<'p>,
+        placed: Placed<'p>,
+    ) -> Result<Step, NoMemory>
+        requires program { world.old.program.now ≡ plan.now.program.now }
+        requires tied { Tied self.old world.old }
+        ensures left { IfOk result (λ a. LeavesIn plan.now.program.now a self.new world.new self.old world.old (λ t k. flow t k false (stmt_shape placed.entry.stmt.now) (quiet placed.entry.before))) }
+        ensures tied { IfOk result (λ a. OnMore a (Tied self.new world.new)) }
+        ensures falls { IfOk result (λ a. OnMore a (12 * world.new.turns + machine_size self.new < 12 * world.old.turns + all_weights self.old.waiting.items)) }
+        ensures same { OnOk result (Same world.old world.new) }
+    {
+        if !log_marks(world, &placed.stmt.probes)? {
+            return Ok(untyped());
+        }
+        let step = self.take_turn(plan, world, placed)?;
+        Ok(step)
+    }
+
+    // The turn of a statement, and its beginning.
+    #[inline(always)]
+    fn take_turn(
+        &mut self,
+        plan: &'p Plan<'p>,
+        world: &mut World<'p>,
+        placed: Placed<'p>,
+    ) -> Result<Step, NoMemory>
+        requires program { world.old.program.now ≡ plan.now.program.now }
+        requires tied { Tied self.old world.old }
+        ensures left { IfOk result (λ a. LeavesIn plan.now.program.now a self.new world.new self.old world.old (λ t k s. turn s (form_flow t k (form_shape placed.entry.stmt.now.form) (quiet placed.entry.before)))) }
+        ensures tied { IfOk result (λ a. OnMore a (Tied self.new world.new)) }
+        ensures falls { IfOk result (λ a. OnMore a (12 * world.new.turns + machine_size self.new < 12 * world.old.turns + all_weights self.old.waiting.items)) }
+        ensures same { OnOk result (Same world.old world.new) }
+    {
+        if world.turn() {
+            let step = self.begin(plan, world, placed)?;
+            return Ok(step);
+        }
+        Ok(Step::Stopped(Stop::Turns))
+    }
+
+    // A statement, whose turn was taken.
+    #[inline(always)]
+    fn begin(
+        &mut self,
+        plan: &'p Plan<'p>,
+        world: &mut World<'p>,
+        placed: Placed<'p>,
+    ) -> Result<Step, NoMemory>
+        requires program { world.old.program.now ≡ plan.now.program.now }
+        requires tied { Tied self.old world.old }
+        ensures left { IfOk result (λ a. LeavesIn plan.now.program.now a self.new world.new self.old world.old (λ t k. form_flow t k (form_shape placed.entry.stmt.now.form) (quiet placed.entry.before))) }
+        ensures tied { IfOk result (λ a. OnMore a (Tied self.new world.new)) }
+        ensures size { IfOk result (λ a. OnMore a (12 * world.new.turns + machine_size self.new ≤ 12 * world.old.turns + 2 + all_weights self.old.waiting.items)) }
+        ensures same { OnOk result (Same world.old world.new) }
+    {
+        match &placed.stmt.form {
+            StmtForm::Compound(body) => {
+                let block = Block::of(body, placed.inner(), placed.before);
+                let step = self.compound(plan, world, block)?;
+                Ok(step)
+            }
+            StmtForm::Plain(node) => Ok(self.plain(plan, world, node)),
+            StmtForm::If(test, _, _) => Ok(self.choice(plan, world, test, placed)),
+            StmtForm::While(_, _) => {
+                let step = self.again(plan, world, placed)?;
+                Ok(step)
+            }
+            StmtForm::Do(_, _) => {
+                let step = self.turn_body(placed)?;
+                Ok(step)
+            }
+            StmtForm::For(first, _, _, _) => {
+                let step = self.begin_for(plan, world, first, placed)?;
+                Ok(step)
+            }
+            StmtForm::Switch(chosen, _) => {
+                Ok(self.work_at(chosen, Use::Stmt(Purpose::Switch, placed)))
+            }
+            StmtForm::Break => Ok(self.leave(Flow::Break)),
+            StmtForm::Continue => Ok(self.leave(Flow::Continue)),
+            StmtForm::Return(node) => Ok(self.give(plan, world, node)),
+        }
+    }
+
+    // A compound statement (C89, 3.6.2), in a scope of its own.
+    fn compound(
+        &mut self,
+        plan: &'p Plan<'p>,
+        world: &mut World<'p>,
+        block: Block<'p>,
+    ) -> Result<Step, NoMemory>
+        requires program { world.old.program.now ≡ plan.now.program.now }
+        requires tied { Tied self.old world.old }
+        ensures left { IfOk result (λ a. LeavesIn plan.now.program.now a self.new world.new self.old world.old (λ t k s. scoped s (block_flow t k (names_ahead block.entry) (item_list block.entry.items.now.items) block.entry.before))) }
+        ensures tied { IfOk result (λ a. OnMore a (Tied self.new world.new)) }
+        ensures size { IfOk result (λ a. OnMore a (12 * world.new.turns + machine_size self.new ≤ 12 * world.old.turns + 2 + all_weights self.old.waiting.items)) }
+        ensures same { OnOk result (Same world.old world.new) }
+    {
+        world.begin_scope()?;
+        self.wait(Waiting::Scope)?;
+        let step = self.declare(plan, world, block)?;
+        Ok(step)
+    }
+
+    // An expression statement (C89, 3.6.3).
+    #[inline(always)]
+    fn plain(&mut self, plan: &'p Plan<'p>, world: &mut World<'p>, node: &'p Option<Node>) -> Step
+        requires program { world.old.program.now ≡ plan.now.program.now }
+        requires tied { Tied self.old world.old }
+        ensures left { LeavesIn plan.now.program.now result self.new world.new self.old world.old (λ t k. form_flow t k (simply (maybe_node node.now)) (quiet 0)) }
+        ensures tied { OnMore result (Tied self.new world.new) }
+        ensures size { OnMore result (12 * world.new.turns + machine_size self.new ≤ 12 * world.old.turns + 1 + all_weights self.old.waiting.items) }
+        ensures same { Same world.old world.new }
+    {
+        match node {
+            None => self.leave(Flow::Next),
+            Some(node) => match direct(world.tables(), world, node) {
+                None => self.work_at(node, Use::Discard),
+                Some(Reply::Stopped(why)) => Step::Stopped(why),
+                Some(Reply::Value(_)) => self.leave(Flow::Next),
+            },
+        }
+    }
+
+    // The test of an `if` (C89, 3.6.4.1).
+    #[inline(always)]
+    fn choice(
+        &mut self,
+        plan: &'p Plan<'p>,
+        world: &mut World<'p>,
+        test: &'p Node,
+        placed: Placed<'p>,
+    ) -> Step
+        requires program { world.old.program.now ≡ plan.now.program.now }
+        requires tied { Tied self.old world.old }
+        ensures left { UsesIn plan.now.program.now result self.new world.new self.old world.old (node_shape test.now) (Use.Stmt Purpose.Choose placed.entry) }
+        ensures tied { OnMore result (Tied self.new world.new) }
+        ensures size { OnMore result (12 * world.new.turns + machine_size self.new ≤ 12 * world.old.turns + 1 + all_weights self.old.waiting.items) }
+        ensures same { Same world.old world.new }
+    {
+        match direct(world.tables(), world, test) {
+            None => self.work_at(test, Use::Stmt(Purpose::Choose, placed)),
+            Some(Reply::Stopped(why)) => Step::Stopped(why),
+            Some(Reply::Value(value)) => self.choose(placed, is_true(value)),
+        }
+    }
+
+    // A `for` (C89, 3.6.5.3): its first part, and then the loop.
+    #[inline(always)]
+    fn begin_for(
+        &mut self,
+        plan: &'p Plan<'p>,
+        world: &mut World<'p>,
+        first: &'p Option<Node>,
+        placed: Placed<'p>,
+    ) -> Result<Step, NoMemory>
+        requires program { world.old.program.now ≡ plan.now.program.now }
+        requires tied { Tied self.old world.old }
+        ensures left { IfOk result (λ a. LeavesIn plan.now.program.now a self.new world.new self.old world.old (λ t k s. then_do (form_flow t k (simply (maybe_node first.now)) (quiet 0) s) (λ f. again_flow t k (loop_of t (form_shape placed.entry.stmt.now.form) placed.entry.before)))) }
+        ensures tied { IfOk result (λ a. OnMore a (Tied self.new world.new)) }
+        ensures size { IfOk result (λ a. OnMore a (12 * world.new.turns + machine_size self.new ≤ 12 * world.old.turns + 1 + all_weights self.old.waiting.items)) }
+        ensures same { OnOk result (Same world.old world.new) }
+    {
+        match first {
+            None => {
+                let step = self.again(plan, world, placed)?;
+                Ok(step)
+            }
+            Some(node) => {
+                let step = self.then_again(plan, world, node, placed)?;
+                Ok(step)
+            }
+        }
+    }
+
+    // A `return` (C89, 3.6.6.4).
+    #[inline(always)]
+    fn give(&mut self, plan: &'p Plan<'p>, world: &mut World<'p>, node: &'p Option<Node>) -> Step
+        requires program { world.old.program.now ≡ plan.now.program.now }
+        requires tied { Tied self.old world.old }
+        ensures left { LeavesIn plan.now.program.now result self.new world.new self.old world.old (λ t k. form_flow t k (return (maybe_node node.now)) (quiet 0)) }
+        ensures tied { OnMore result (Tied self.new world.new) }
+        ensures size { OnMore result (12 * world.new.turns + machine_size self.new ≤ 12 * world.old.turns + 1 + all_weights self.old.waiting.items) }
+        ensures same { Same world.old world.new }
+    {
+        match node {
+            None => self.leave(Flow::Return(None)),
+            Some(node) => match direct(world.tables(), world, node) {
+                None => self.work_at(node, Use::Return),
+                Some(Reply::Stopped(why)) => Step::Stopped(why),
+                Some(Reply::Value(value)) => self.leave(Flow::Return(Some(value))),
+            },
+        }
+    }
+}

@@ -1,7 +1,0 @@
--- The fields of a member list, wherever they lie in memory.
-use Rattle.std.specs.Prelude.{List, map}
-use Rattle.c_tree.specs.Tables.{FieldShape, field_shape}
-use Rattle.c_typing.specs.declared.fields.Members.{Members}
-
-abbrev pub fields_of : Members → List FieldShape
-fields_of m = map field_shape m.rows.items

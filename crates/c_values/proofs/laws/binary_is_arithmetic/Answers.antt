@@ -1,5 +1,0 @@
-use Rattle.c_values.proofs.Exact.{binary_exact}
-use Rattle.c_values.proofs.laws.binary_is_arithmetic.Goals as goal
-
-pub returns : goal.returns
-returns c = binary_exact c.args.op c.args.left c.args.right

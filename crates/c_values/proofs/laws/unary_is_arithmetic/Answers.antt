@@ -1,5 +1,0 @@
-use Rattle.c_values.proofs.Exact.{unary_exact}
-use Rattle.c_values.proofs.laws.unary_is_arithmetic.Goals as goal
-
-pub returns : goal.returns
-returns c = unary_exact c.args.op

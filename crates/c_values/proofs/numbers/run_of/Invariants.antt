@@ -1,7 +1,0 @@
-use Rattle.std.proofs.Common.{◌≡◌, ◌+◌, drop}
-use Rattle.c_cut.specs.declared.bytes.ByteSet.TheVariants.{Digit}
-use Rattle.c_cut.specs.Bytes.{run}
-use Rattle.c_values.proofs.numbers.run_of.Given as goal
-
-abbrev pub invariant-loop-i : goal.invariant-loop-i
-invariant-loop-i l = l.i + run (Digit l.base) (drop l.i l.text) ≡ run (Digit l.base) l.text

@@ -1,7 +1,0 @@
-use Rattle.std.proofs.Common.{◌≡◌, drop}
-use Rattle.std.specs.List.{list_all}
-use Rattle.c_values.specs.Probes.{is_lower_digit}
-use Rattle.c_values.proofs.probes.is_lower.Given as goal
-
-abbrev pub invariant-loop-b : goal.invariant-loop-b
-invariant-loop-b l = list_all is_lower_digit (drop l.b-index l.text) ≡ list_all is_lower_digit l.text

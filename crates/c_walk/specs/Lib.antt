@@ -1,0 +1,11 @@
+pub mod Items
+pub mod Places
+pub mod Tests
+pub mod Walked
+pub mod Counted
+pub mod Walking
+pub mod Stating
+pub mod Units
+pub mod ItemView
+pub mod WalkerView
+pub mod Sound

@@ -1,0 +1,48 @@
+-- Programs of the checker, with their probes.
+use Rattle.std.proofs.Common.{◌≡◌, ℕ, List, Some, None, sym, ap, ◌∙◌, subst}
+use Rattle.std.proofs.Props.{props}
+use Rattle.std.proofs.Math.Logic.{∥∥₁_elim, ∥∥₁_map}
+use Rattle.c_syntax.specs.declared.text.Text.{Text}
+use Rattle.c_syntax.specs.Shape.{UnitShape}
+use Rattle.c_tables.specs.Tables.{TablesShape}
+use Rattle.c_tree.specs.Erased.{erased_unit}
+use Rattle.c_constants.specs.Probes.{digest_of}
+use Rattle.c_tree.specs.Programs.{IsProgram, HoldsProgram, itself, with_probes, digest_in}
+use Rattle.c_sites_probes.specs.Marked.{unit_mark}
+use Rattle.c_meaning.specs.Calls.{Source}
+use Rattle.probe_rules.specs.Instrumented.{instrumented}
+use Rattle.probe_rules.specs.Simulation.{Simulates}
+use Rattle.probe_rules.proofs.ErasedPlain.{plain_erased}
+use Rattle.probe_rules.proofs.ErasedUnits.{instrumented_erased}
+use Rattle.probe_laws.specs.Laws.{IsTaken}
+use Rattle.probe_laws.proofs.Laws.{taken_is_plain, program_simulates}
+
+abbrev pub source : UnitShape → TablesShape → Source
+source u t = record { unit = u; tables = t }
+
+-- a plain unit is itself what was typed
+typed_plain : (u : UnitShape) (t : TablesShape) → unit_mark u ≡ None → HoldsProgram u t → IsProgram u t
+typed_plain u t plain (itself p) = p
+typed_plain u t plain (with_probes p) = subst (λ v. IsProgram v t) (plain_erased u plain) p
+
+-- with its probes it is what was typed, but for them
+pub probed_program : (digest : Text) (P : Source) (u : UnitShape) (t : TablesShape) → IsTaken P → u ≡ (instrumented digest P).unit → t ≡ P.tables → ∥ HoldsProgram P.unit P.tables ∥₁ → ∥ IsProgram (erased_unit u) t ∥₁
+probed_program digest P u t taken e f holds =
+    let plain = taken_is_plain P taken in
+    let same : erased_unit u ≡ P.unit = ap erased_unit e ∙ instrumented_erased digest P plain in
+    ∥∥₁_map holds (λ h. subst (λ v. IsProgram v t) (sym same) (subst (λ s. IsProgram P.unit s) (sym f) (typed_plain P.unit P.tables plain h)))
+
+simulates_prop : (Q P : Source) → IsProp (Simulates Q P)
+simulates_prop Q P = hlevel props
+
+pub probed_simulates : (digest : Text) (P Q : Source) → IsTaken P → ∥ HoldsProgram P.unit P.tables ∥₁ → Q ≡ instrumented digest P → Simulates Q P
+probed_simulates digest P Q taken holds e =
+    ∥∥₁_elim holds (simulates_prop Q P) (λ h. subst (λ s. Simulates s P) (sym e) (program_simulates P (typed_plain P.unit P.tables (taken_is_plain P taken) h) taken digest))
+
+-- the unit with its probes and the same tables are the program with its probes, however its digest is said
+pub made : (digest spelled : Text) (P : Source) (u : UnitShape) (t : TablesShape) → u ≡ (instrumented digest P).unit → t ≡ P.tables → digest ≡ spelled → source u t ≡ instrumented spelled P
+made digest spelled P u t e f g = ap (λ v. source v t) e ∙ ap (λ s. source (instrumented digest P).unit s) f ∙ ap (λ d. instrumented d P) g
+
+-- its line has the digest
+pub lined : (digest : Text) (P : Source) (u : UnitShape) (bytes : List ℕ) → u ≡ (instrumented digest P).unit → digest_of digest ≡ Some bytes → digest_in u.line ≡ Some bytes
+lined digest P u bytes e f = ap (λ (v : UnitShape). digest_in v.line) e ∙ f

@@ -1,0 +1,28 @@
+use Rattle.std.proofs.Common.{ap, ◌∙◌}
+use Rattle.c_syntax.specs.View.{unit_shape}
+use Rattle.c_tables.specs.Tables.{tables_shape}
+use Rattle.c_meaning.specs.Sources.{source_of}
+use Rattle.hex.specs.Hex.{encode_lower}
+use Rattle.probe_rules.specs.Instrumented.{instrumented_unit}
+use Rattle.probe_in.proofs.Programs.{probed_program, made, lined, probed_simulates}
+use Rattle.probe_in.proofs.program.instrument.Goals as goal
+
+pub with_probes-requires : goal.with_probes-requires
+with_probes-requires c =
+    let t = tables_shape c.args.program.now.tables in
+    let unit = c.in_ok-unit.ensures t ∙ ap (λ u. instrumented_unit c.in_ok-digits.digits t (unit_shape u)) c.unit.ensures.unit in
+    probed_program c.in_ok-digits.digits (source_of c.args.program.now) (unit_shape c.in_ok-unit.unit) (tables_shape c.in_ok-tables.tables) c.requires.clean unit (c.in_ok-tables.ensures ∙ ap tables_shape c.tables.ensures.tables) c.args.program.now.typed
+
+pub returns-clause-digest : goal.returns-clause-digest
+returns-clause-digest c =
+    let t = tables_shape c.args.program.now.tables in
+    let unit = ap unit_shape c.with_probes.ensures.unit ∙ c.in_ok-unit.ensures t ∙ ap (λ u. instrumented_unit c.in_ok-digits.digits t (unit_shape u)) c.unit.ensures.unit in
+    lined c.in_ok-digits.digits (source_of c.args.program.now) (unit_shape c.with_probes.result.unit) c.args.digest.now unit c.in_ok-digits.ensures.read
+
+pub returns-clause-simulates : goal.returns-clause-simulates
+returns-clause-simulates c =
+    let t = tables_shape c.args.program.now.tables in
+    let unit = ap unit_shape c.with_probes.ensures.unit ∙ c.in_ok-unit.ensures t ∙ ap (λ u. instrumented_unit c.in_ok-digits.digits t (unit_shape u)) c.unit.ensures.unit in
+    let tables = ap tables_shape c.with_probes.ensures.tables ∙ c.in_ok-tables.ensures ∙ ap tables_shape c.tables.ensures.tables in
+    let same = made c.in_ok-digits.digits (encode_lower c.args.digest.now) (source_of c.args.program.now) (unit_shape c.with_probes.result.unit) (tables_shape c.with_probes.result.tables) unit tables c.in_ok-digits.ensures.spelled in
+    probed_simulates (encode_lower c.args.digest.now) (source_of c.args.program.now) (source_of c.with_probes.result) c.requires.clean c.args.program.now.typed same

@@ -1,6 +1,0 @@
-use Rattle.std.proofs.Common.{drop}
-use Rattle.probe_unit.proofs.Lists.{ExternalsSoFar}
-use Rattle.probe_unit.proofs.unit.probed_externals.Given as goal
-
-abbrev pub invariant-loop-external : goal.invariant-loop-external
-invariant-loop-external l = ExternalsSoFar l.out.numbers l.made.items (drop l.external-index l.externals) l.externals
