@@ -1,0 +1,11 @@
+use Rattle.std.proofs.Common.{take, false, ◌≡◌}
+use Rattle.c_tables.specs.Tables.{tables_shape}
+use Rattle.flow_graph.specs.View.{rows_of}
+use Rattle.flow_graph.proofs.Runs.{RunPlaced}
+use Rattle.flow_graph.proofs.Listed.{after_of, items_run}
+use Rattle.flow_graph.proofs.statements.+stating.Given as goal
+
+abbrev pub invariant-lay_items-loop-item : goal.invariant-lay_items-loop-item
+invariant-lay_items-loop-item l =
+    RunPlaced (items_run (tables_shape l.tables) l.to) (rows_of l.fn.out.rows) (rows_of l.out.rows) l.fn.out.numbers l.out.numbers l.at l.entry (take l.item-index l.items)
+    × (l.after ≡ after_of false (take l.item-index l.items))

@@ -1,0 +1,5 @@
+pub mod Paths
+pub mod Counts
+pub mod Laying
+pub mod Listed
+pub mod View

@@ -1,0 +1,4 @@
+pub mod Comes
+pub mod Expressions
+pub mod Statements
+pub mod Walks
