@@ -1,9 +1,9 @@
 -- The answers of the commands, as far as their steps have come.
 use Rattle.std.proofs.Common.{◌≡◌, ap, ◌∙◌, append-nil, List, [], ◌∷◌, ◌++◌, ℕ, Option, None, Some}
 use Rattle.c_meaning.specs.Calls.{Source}
-use Rattle.atac_top.specs.Words.{Command, Check, Cover, Run}
+use Rattle.atac_top.specs.Words.{Command, Check, ListItems, Cover, Run}
 use Rattle.atac_top.specs.Ends.{End, IsDone, NotAccepted}
-use Rattle.atac_top.specs.Programs.{Counts, Reading, Refuses, Counted, Runs, Covers, IsUnderstood, counts_text, section, report}
+use Rattle.atac_top.specs.Programs.{Counts, Reading, Refuses, Counted, Listed, Runs, Covers, IsUnderstood, counts_text, section, report}
 use Rattle.atac_top.specs.Answers.{Answer, asked, names, text, refused, gets, Got, Gets, Stops, input_most}
 use Rattle.atac_top.specs.Runs.{IsOfGot, Understands}
 
@@ -77,3 +77,19 @@ module _ (p : List ℕ) (fp : Option (List ℕ)) (s : List ℕ) (h : gets p 1048
 
   pub check_done : (n : Counts) → asked (Some (Check p)) (Counted n) (fp ∷ []) ≡ record { end = IsDone; sections = []; rest = counts_text n; kept = None }
   check_done n = rw h
+
+-- ---- the answer of `list`
+
+pub list_stopped : (p : List ℕ) (fp : Option (List ℕ)) (e : End) → gets p 1048576 fp ≡ Stops e
+    → Understands (Some (ListItems p)) (fp ∷ []) (Refuses []) × (asked (Some (ListItems p)) (Refuses []) (fp ∷ []) ≡ refused [] e)
+list_stopped p fp e h = (stopped_got (ListItems p) (gets p 1048576 fp) e h, rw h)
+
+module _ (p : List ℕ) (fp : Option (List ℕ)) (s : List ℕ) (h : gets p 1048576 fp ≡ Gets s) where
+  pub listed : (u : Reading) → IsUnderstood (ListItems p) s u → Understands (Some (ListItems p)) (fp ∷ []) u
+  listed u is = rw h is
+
+  pub list_refused : (said : List ℕ) → asked (Some (ListItems p)) (Refuses said) (fp ∷ []) ≡ refused [] (NotAccepted p said)
+  list_refused said = rw h
+
+  pub list_done : (items : List ℕ) → asked (Some (ListItems p)) (Listed items) (fp ∷ []) ≡ record { end = IsDone; sections = []; rest = items; kept = None }
+  list_done items = rw h

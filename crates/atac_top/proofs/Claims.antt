@@ -1,15 +1,18 @@
 -- What follows from a whole run.
-use Rattle.std.proofs.Common.{◌≡◌, ◌⊎◌, inl, inr, refl, ap, ◌∙◌, subst, List, [], ◌∷◌, ◌++◌, ℕ, Option, None, Some, arith}
+use Rattle.std.proofs.Common.{◌≡◌, ◌⊎◌, inl, inr, refl, ap, sym, ◌∙◌, subst, List, [], ◌∷◌, ◌++◌, ℕ, Option, None, Some, arith}
 use Rattle.std.specs.Io.KnownBytes.{append_known}
 use Rattle.atac_base.specs.Outside.{ShelfState, SinkState, Said, Agrees}
 use Rattle.c_syntax.specs.Shape as full
 use Rattle.c_tables.specs.Tables.{TablesShape}
-use Rattle.c_sites.specs.Refused.{refusal}
+use Rattle.c_walk.specs.Units.{items_of}
+use Rattle.c_sites.specs.declared.numbered.Sites.{Sites}
+use Rattle.c_sites.specs.Refused.{refusal, AreNumbered}
+use Rattle.pair_list.specs.Items.{AreTooMany}
 use Rattle.c_lex.specs.declared.lexer.TextKind.TheVariants.{Plain, Probed}
 use Rattle.c_meaning.specs.Calls.{Source}
-use Rattle.atac_top.specs.Words.{Command, Check, Cover, Run}
+use Rattle.atac_top.specs.Words.{Command, Check, ListItems, Cover, Run}
 use Rattle.atac_top.specs.Ends.{End, IsDone, BadWords, NotAccepted, NotHeld, TooLong, ReadFailed, WriteFailed, OutOfMemory, status_of}
-use Rattle.atac_top.specs.Programs.{IsAccepted, IsProbed, IsCovered, program_in, Rejection, by_front, by_sites, Unread, Counts, counts_of, counts_text, Reading, Refuses, Counted, Runs, Covers, IsUnderstood, section, report}
+use Rattle.atac_top.specs.Programs.{IsAccepted, IsProbed, IsCovered, IsListing, program_in, Rejection, by_front, by_sites, Unlisted, not_accepted, too_many, Unread, Counts, counts_of, counts_text, Reading, Refuses, Counted, Listed, Runs, Covers, IsUnderstood, section, report}
 use Rattle.atac_top.specs.Answers.{Answer, asked, names, text, gets, Gets, input_most}
 use Rattle.atac_top.specs.Runs.{AllAgree, IsOfGot, Understands, Breaks, Answers, Goes}
 use Rattle.atac_top.specs.Runs as whole
@@ -18,7 +21,7 @@ use Rattle.atac_top.specs.declared.status.Status.{Status}
 use Rattle.atac_top.specs.declared.status.Status.TheVariants.{Done, NoMemory}
 use Rattle.c_front.specs.Front as front
 use Rattle.c_front.proofs.One.{is_one}
-use Rattle.atac_top.proofs.Asked.{cover_done, cover_text, run_done, run_text, check_done}
+use Rattle.atac_top.proofs.Asked.{cover_done, cover_text, run_done, run_text, check_done, list_done, list_refused}
 
 module _ (c : Option Command) (shelf shelf' : ShelfState) (out out' : SinkState) (found : List (Option (List ℕ))) (put : List ℕ) (fine : NoFault shelf shelf' out out') where
   -- where the call breaks off at its program, memory was wanted, or a count rose
@@ -86,6 +89,7 @@ checked_done : (program : List ℕ) (p : Option (List ℕ)) (source : List ℕ) 
     → asked (Some (Check program)) u (p ∷ []) ≡ record { end = IsDone; sections = []; rest = counts_text (counts_of a.tables a.unit); kept = None }
 checked_done program p source (Refuses said) g a is = absurd (not_rejected source said a is)
 checked_done program p source (Counted n) g a is = check_done program p source g n ∙ ap told (is.counts ∙ same_counts source a is.accepted)
+checked_done program p source (Listed text) g a is = absurd is
 checked_done program p source (Runs P) g a is = absurd is
 checked_done program p source (Covers P) g a is = absurd is
 
@@ -96,6 +100,33 @@ same_source source a b =
     let same_unit : b.unit ≡ a.unit = cc in
     let same_tables : b.tables ≡ a.tables = cc in
     rw (same_unit, same_tables) refl
+
+-- what is said of one program's sites is said of the same program
+few_moved : (u v : full.UnitShape) (t s : TablesShape) (found : Sites) → u ≡ v → t ≡ s → AreNumbered t.structures (items_of t u) found → AreTooMany t u found
+    → AreNumbered s.structures (items_of s v) found × AreTooMany s v found
+few_moved u v t s found same_unit same_tables n m = (
+  subst (λ (x : TablesShape). AreNumbered x.structures (items_of x v) found) same_tables (subst (λ (x : full.UnitShape). AreNumbered t.structures (items_of t x) found) same_unit n),
+  subst (λ (x : TablesShape). AreTooMany x v found) same_tables (subst (λ (x : full.UnitShape). AreTooMany t x found) same_unit m),
+)
+
+-- a text that is accepted and whose pairs aren't too many has a list
+not_unlisted : (source said : List ℕ) (a : IsAccepted source) → ((s : Sites) → AreNumbered a.tables.structures (items_of a.tables a.unit) s → AreTooMany a.tables a.unit s → ⊥) → Unlisted source said → ⊥
+not_unlisted source said a few (not_accepted r) = not_rejected source said a r
+not_unlisted source said a few (too_many b s n m is) =
+    let e : front.program b.unit b.tables ≡ front.program a.unit a.tables = same_program source a b.unit b.tables b.read in
+    let same_unit : b.unit ≡ a.unit = cc in
+    let same_tables : b.tables ≡ a.tables = cc in
+    let moved = few_moved b.unit a.unit b.tables a.tables s same_unit same_tables n m in
+    few s moved.0 moved.1
+
+-- it is listed
+listed_done : (program : List ℕ) (p : Option (List ℕ)) (source : List ℕ) (u : Reading) → gets program 1048576 p ≡ Gets source → (a : IsAccepted source) → ((s : Sites) → AreNumbered a.tables.structures (items_of a.tables a.unit) s → AreTooMany a.tables a.unit s → ⊥)
+    → IsUnderstood (ListItems program) source u → (asked (Some (ListItems program)) u (p ∷ [])).end ≡ IsDone
+listed_done program p source (Refuses said) g a few is = absurd (not_unlisted source said a few is)
+listed_done program p source (Listed text) g a few is = ap (λ (x : Answer). x.end) (list_done program p source g text)
+listed_done program p source (Counted m) g a few is = absurd is
+listed_done program p source (Runs R) g a few is = absurd is
+listed_done program p source (Covers R) g a few is = absurd is
 
 -- a text that is read with probes is not refused so, and is one program
 not_unread : (source said : List ℕ) (P : Source) → IsProbed source P → Unread source said → ⊥
@@ -115,6 +146,7 @@ covered_done : (n : ℕ) (program input : List ℕ) (p i : Option (List ℕ)) (s
     → IsAccepted source → IsUnderstood (Cover n program input) source u → (asked (Some (Cover n program input)) u (p ∷ i ∷ [])).end ≡ IsDone
 covered_done n program input p i source bytes (Refuses said) g h a is = absurd (not_rejected source said a is)
 covered_done n program input p i source bytes (Counted m) g h a is = absurd is
+covered_done n program input p i source bytes (Listed text) g h a is = absurd is
 covered_done n program input p i source bytes (Runs R) g h a is = absurd is
 covered_done n program input p i source bytes (Covers R) g h a is = ap (λ (a : Answer). a.end) (cover_done n program input p i source g R bytes h)
 
@@ -123,6 +155,7 @@ ran_done : (n : ℕ) (program input : List ℕ) (p i : Option (List ℕ)) (sourc
     → IsProbed source P → IsUnderstood (Run n program input) source u → (asked (Some (Run n program input)) u (p ∷ i ∷ [])).end ≡ IsDone
 ran_done n program input p i source bytes P (Refuses said) g h read is = absurd (not_unread source said P read is)
 ran_done n program input p i source bytes P (Counted m) g h read is = absurd is
+ran_done n program input p i source bytes P (Listed text) g h read is = absurd is
 ran_done n program input p i source bytes P (Covers R) g h read is = absurd is
 ran_done n program input p i source bytes P (Runs R) g h read is = ap (λ (a : Answer). a.end) (run_done n program input p i source g R bytes h)
 
@@ -132,6 +165,11 @@ supposed (Check program) says (p ∷ []) u agrees h is =
     ap (λ (a : Answer). a.end) (checked_done program p _ u g h.accepted (subst (λ x. IsOfGot (Check program) x u) g is))
 supposed (Check program) says [] u agrees h is = absurd agrees
 supposed (Check program) says (p ∷ i ∷ rest) u agrees h is = absurd agrees.1
+supposed (ListItems program) says (p ∷ []) u agrees h is =
+    let g = got program 1048576 _ p h.passes.held agrees.0 in
+    listed_done program p _ u g h.passes.accepted h.few (subst (λ x. IsOfGot (ListItems program) x u) g is)
+supposed (ListItems program) says [] u agrees h is = absurd agrees
+supposed (ListItems program) says (p ∷ i ∷ rest) u agrees h is = absurd agrees.1
 supposed (Cover n program input) says (p ∷ i ∷ []) u agrees h is =
     let g = got program 1048576 _ p h.0.held agrees.0 in
     covered_done n program input p i _ _ u g (got input input_most _ i h.1 agrees.1.0) h.0.accepted (subst (λ x. IsOfGot (Cover n program input) x u) g is)
@@ -160,6 +198,7 @@ covered_text : (n : ℕ) (program input : List ℕ) (p i : Option (List ℕ)) (s
     → (a : IsAccepted source) → IsUnderstood (Cover n program input) source u → text (asked (Some (Cover n program input)) u (p ∷ i ∷ [])) ≡ section input (program_in a) bytes n ++ report (program_in a) bytes n
 covered_text n program input p i source bytes (Refuses said) g h a is = absurd (not_rejected source said a is)
 covered_text n program input p i source bytes (Counted m) g h a is = absurd is
+covered_text n program input p i source bytes (Listed text) g h a is = absurd is
 covered_text n program input p i source bytes (Runs R) g h a is = absurd is
 covered_text n program input p i source bytes (Covers R) g h a is =
     cover_text n program input p i source g R bytes h
@@ -178,6 +217,7 @@ ran_text : (n : ℕ) (program input : List ℕ) (p i : Option (List ℕ)) (sourc
     → IsProbed source P → IsUnderstood (Run n program input) source u → text (asked (Some (Run n program input)) u (p ∷ i ∷ [])) ≡ section input P bytes n
 ran_text n program input p i source bytes P (Refuses said) g h read is = absurd (not_unread source said P read is)
 ran_text n program input p i source bytes P (Counted m) g h read is = absurd is
+ran_text n program input p i source bytes P (Listed text) g h read is = absurd is
 ran_text n program input p i source bytes P (Covers R) g h read is = absurd is
 ran_text n program input p i source bytes P (Runs R) g h read is = run_text n program input p i source g R bytes h ∙ ap (λ (x : Source). section input x bytes n) (one_probed source P R read is)
 
@@ -198,12 +238,31 @@ counted_text program says (f ∷ []) u agrees is p =
 counted_text program says [] u agrees is p = absurd agrees
 counted_text program says (f ∷ g ∷ rest) u agrees is p = absurd agrees.1
 
-done_put : (c : Option Command) (shelf shelf' : ShelfState) (out out' : SinkState) (end : End) (h : Goes c shelf shelf' out out' end) → status_of end ≡ Done → (u : Reading) × Understands c h.found u × (h.put ≡ text (asked c u h.found))
+listed_text : (program : List ℕ) (says : List ℕ → Said) (found : List (Option (List ℕ))) (u : Reading) → AllAgree says (names (Some (ListItems program))) found → Understands (Some (ListItems program)) found u
+    → (p : Passes (says program)) → (asked (Some (ListItems program)) u found).end ≡ IsDone → IsListing p.held.bytes (text (asked (Some (ListItems program)) u found))
+listed_text program says (f ∷ []) u agrees is p done =
+    let got_source = got program 1048576 _ f p.held agrees.0 in
+    shown u (subst (λ x. IsOfGot (ListItems program) x u) got_source is) done
+  where
+    shown : (u : Reading) → IsUnderstood (ListItems program) p.held.bytes u → (asked (Some (ListItems program)) u (f ∷ [])).end ≡ IsDone → IsListing p.held.bytes (text (asked (Some (ListItems program)) u (f ∷ [])))
+    shown (Refuses said) is done =
+        let got_source = got program 1048576 _ f p.held agrees.0 in
+        absurd (let e = sym (ap (λ (x : Answer). x.end) (list_refused program f _ got_source said)) ∙ done in cc)
+    shown (Listed items) is done =
+        let got_source = got program 1048576 _ f p.held agrees.0 in
+        subst (IsListing p.held.bytes) (sym (ap (λ (x : Answer). text x) (list_done program f _ got_source items))) is
+    shown (Counted m) is done = absurd is
+    shown (Runs R) is done = absurd is
+    shown (Covers R) is done = absurd is
+listed_text program says [] u agrees is p done = absurd agrees
+listed_text program says (f ∷ g ∷ rest) u agrees is p done = absurd agrees.1
+
+done_put : (c : Option Command) (shelf shelf' : ShelfState) (out out' : SinkState) (end : End) (h : Goes c shelf shelf' out out' end) → status_of end ≡ Done → (u : Reading) × Understands c h.found u × (h.put ≡ text (asked c u h.found)) × ((asked c u h.found).end ≡ IsDone)
 done_put c shelf shelf' out out' IsDone h is = by_way h.comes
   where
-    by_way : Breaks shelf shelf' (names c) IsDone h.put ⊎ Answers c shelf shelf' out out' h.found IsDone h.put → (u : Reading) × Understands c h.found u × (h.put ≡ text (asked c u h.found))
+    by_way : Breaks shelf shelf' (names c) IsDone h.put ⊎ Answers c shelf shelf' out out' h.found IsDone h.put → (u : Reading) × Understands c h.found u × (h.put ≡ text (asked c u h.found)) × ((asked c u h.found).end ≡ IsDone)
     by_way (inl b) = absurd b
-    by_way (inr a) = (a.understood, a.is, a.comes.1)
+    by_way (inr a) = (a.understood, a.is, a.comes.1, sym a.comes.0)
 done_put c shelf shelf' out out' OutOfMemory h is = absurd (cc)
 done_put c shelf shelf' out out' (ReadFailed file) h is = absurd (cc)
 done_put c shelf shelf' out out' WriteFailed h is = absurd (cc)
@@ -216,6 +275,9 @@ pub shows : (command : Command) (shelf shelf' : ShelfState) (out out' : SinkStat
 shows (Check program) shelf shelf' out out' end h is = λ p.
     let d = done_put (Some (Check program)) shelf shelf' out out' end h is in
     h.bytes ∙ ap (append_known out.bytes) (d.2 ∙ counted_text program shelf.says h.found d.0 h.agrees d.1 p)
+shows (ListItems program) shelf shelf' out out' end h is = λ p.
+    let d = done_put (Some (ListItems program)) shelf shelf' out out' end h is in
+    (_, listed_text program shelf.says h.found d.0 h.agrees d.1 p d.3, h.bytes ∙ ap (append_known out.bytes) d.2)
 shows (Cover n program input) shelf shelf' out out' end h is = λ p i.
     let d = done_put (Some (Cover n program input)) shelf shelf' out out' end h is in
     h.bytes ∙ ap (append_known out.bytes) (d.2 ∙ shown_text n program input shelf.says h.found d.0 h.agrees d.1 p i)

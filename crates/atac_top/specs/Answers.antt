@@ -1,9 +1,9 @@
 -- What a command answers, by the files that it finds.
 use Rattle.std.specs.Prelude.{ℕ, cond, leb, List, [], ◌∷◌, ◌++◌, length, Option, None, Some}
 use Rattle.c_meaning.specs.Calls.{Source}
-use Rattle.atac_top.specs.Words.{Command, Check, Cover, Run, fetched}
+use Rattle.atac_top.specs.Words.{Command, Check, ListItems, Cover, Run, fetched}
 use Rattle.atac_top.specs.Ends.{End, IsDone, BadWords, NotAccepted, NotHeld, TooLong}
-use Rattle.atac_top.specs.Programs.{Counts, Reading, Refuses, Counted, Runs, Covers, counts_text, section, report}
+use Rattle.atac_top.specs.Programs.{Counts, Reading, Refuses, Counted, Listed, Runs, Covers, counts_text, section, report}
 
 -- An answer: how the call ends, what it puts (whole sections, and then a rest), and what it keeps under which name.
 pub record Answer : Type 0 where
@@ -36,11 +36,16 @@ abbrev pub given : List (List ℕ) → Got → (List ℕ → Answer) → Answer
 given sections (Gets bytes) go = go bytes
 given sections (Stops end) go = refused sections end
 
--- A program that is refused ends the call, whatever it is wanted for: its counts, a run, or what a run covers.
+-- A program that is refused ends the call, whatever it is wanted for: its counts, its list, a run, or what a run covers.
 abbrev pub counted : List ℕ → Reading → (Counts → Answer) → Answer
 counted file (Refuses said) go = refused [] (NotAccepted file said)
 counted file (Counted n) go = go n
 counted file understood go = refused [] BadWords
+
+abbrev pub listed : List ℕ → Reading → (List ℕ → Answer) → Answer
+listed file (Refuses said) go = refused [] (NotAccepted file said)
+listed file (Listed items) go = go items
+listed file understood go = refused [] BadWords
 
 abbrev pub run_by : List ℕ → Reading → (Source → Answer) → Answer
 run_by file (Refuses said) go = refused [] (NotAccepted file said)
@@ -61,6 +66,10 @@ answer (Check program) understood (p ∷ []) =
     given [] (gets program 1048576 p) (λ source.
     counted program understood (λ n.
     record { end = IsDone; sections = []; rest = counts_text n; kept = None }))
+answer (ListItems program) understood (p ∷ []) =
+    given [] (gets program 1048576 p) (λ source.
+    listed program understood (λ items.
+    record { end = IsDone; sections = []; rest = items; kept = None }))
 answer (Cover limit program input) understood (p ∷ i ∷ []) =
     given [] (gets program 1048576 p) (λ source.
     covered_by program understood (λ P.

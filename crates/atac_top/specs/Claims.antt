@@ -3,8 +3,12 @@ use Rattle.std.specs.Prelude.{◌≡◌, ℕ, ◌≤◌, List, ◌++◌, length,
 use Rattle.std.specs.Io.KnownBytes.{append_known}
 use Rattle.atac_base.specs.Outside.{ShelfState, SinkState, Said, Rose}
 use Rattle.c_meaning.specs.Calls.{Source}
-use Rattle.atac_top.specs.Words.{Command, Check, Cover, Run}
-use Rattle.atac_top.specs.Programs.{IsAccepted, IsProbed, program_in, counts_of, counts_text, section, report}
+use Rattle.c_walk.specs.Units.{items_of}
+use Rattle.c_sites.specs.declared.numbered.Sites.{Sites}
+use Rattle.c_sites.specs.Refused.{AreNumbered}
+use Rattle.pair_list.specs.Items.{AreTooMany}
+use Rattle.atac_top.specs.Words.{Command, Check, ListItems, Cover, Run}
+use Rattle.atac_top.specs.Programs.{IsAccepted, IsListing, IsProbed, program_in, counts_of, counts_text, section, report}
 use Rattle.atac_top.specs.Answers.{input_most}
 
 -- The name is told, and held within the limit.
@@ -18,6 +22,11 @@ pub record Passes (said : Said) : Type 0 where
   pub held : IsHeld said 1048576
   pub accepted : IsAccepted held.bytes
 
+-- Its c-uses and p-uses aren't too many.
+pub record IsListable (said : Said) : Type 0 where
+  pub passes : Passes said
+  pub few : (s : Sites) → AreNumbered passes.accepted.tables.structures (items_of passes.accepted.tables passes.accepted.unit) s → AreTooMany passes.accepted.tables passes.accepted.unit s → ⊥
+
 -- The same of one that is to be run, with probes or without.
 pub record IsRunnable (said : Said) : Type 0 where
   pub held : IsHeld said 67108864
@@ -26,13 +35,16 @@ pub record IsRunnable (said : Said) : Type 0 where
 
 abbrev pub Supposes : Command → (List ℕ → Said) → Type 0
 Supposes (Check program) says = Passes (says program)
+Supposes (ListItems program) says = IsListable (says program)
 Supposes (Cover limit program input) says = Passes (says program) × IsHeld (says input) input_most
 Supposes (Run limit program input) says = IsRunnable (says program) × IsHeld (says input) input_most
 
--- What the sink gains when the call is done: the line of counts; the section of the program's own run, and the report; that section.
+-- What the sink gains when the call is done: the line of counts; the list of the items; the section of the program's own run, and the report; that section.
 abbrev pub Shows : Command → (List ℕ → Said) → SinkState → SinkState → Type 0
 Shows (Check program) says out out' =
     (p : Passes (says program)) → out'.bytes ≡ append_known out.bytes (counts_text (counts_of p.accepted.tables p.accepted.unit))
+Shows (ListItems program) says out out' =
+    (p : Passes (says program)) → (text : List ℕ) × IsListing p.held.bytes text × (out'.bytes ≡ append_known out.bytes text)
 Shows (Cover limit program input) says out out' =
     (p : Passes (says program)) (i : IsHeld (says input) input_most) → out'.bytes ≡ append_known out.bytes (section input (program_in p.accepted) i.bytes limit ++ report (program_in p.accepted) i.bytes limit)
 Shows (Run limit program input) says out out' =

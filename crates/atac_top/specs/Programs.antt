@@ -13,12 +13,15 @@ use Rattle.c_walk.specs.Units.{items_of}
 use Rattle.c_sites.specs.Kinds.{blocks}
 use Rattle.c_sites.specs.Lists.{Lists, lists_of}
 use Rattle.c_sites.specs.Numbers.{names_of}
-use Rattle.c_sites.specs.Refused.{refusal}
+use Rattle.c_sites.specs.declared.numbered.Sites.{Sites}
+use Rattle.c_sites.specs.Refused.{refusal, AreNumbered}
+use Rattle.pair_list.specs.Items.{AreItems, AreTooMany}
 use Rattle.c_meaning.specs.Calls.{Source}
 use Rattle.c_meaning.specs.Deeds.{told}
 use Rattle.c_meaning.specs.Runs.{run, run_heard}
-use Rattle.atac_top.specs.Words.{Command, Check, Cover, Run}
+use Rattle.atac_top.specs.Words.{Command, Check, ListItems, Cover, Run}
 use Rattle.cover_core.specs.Covered.{covers}
+use Rattle.cover_report.specs.ItemTexts.{list_text}
 use Rattle.cover_report.specs.Texts.{report_text}
 use Rattle.atac_top.specs.Sections.{section_text}
 
@@ -41,6 +44,20 @@ program_in a = record { unit = a.unit; tables = a.tables }
 pub data Rejection (source said : List ℕ) : Type 0 where
   by_front : (number : ℕ) (p : Pos) → front.IsRead Plain source (front.refused number p) → said ≡ refusal_text number p → Rejection source said
   by_sites : (u : full.UnitShape) (t : TablesShape) (number : ℕ) (p : Pos) → front.IsRead Plain source (front.program u t) → refusal t u ≡ Some (number, p) → said ≡ refusal_text number p → Rejection source said
+
+-- The text is accepted, and this is the list of its program's items, by sites that are its own.
+pub record IsListing (source text : List ℕ) : Type 0 where
+  pub accepted : IsAccepted source
+  pub sites : Sites
+  pub numbered : AreNumbered accepted.tables.structures (items_of accepted.tables accepted.unit) sites
+  pub items : ItemLists
+  pub are : AreItems accepted.tables accepted.unit sites items
+  pub text_is : text ≡ list_text items
+
+-- Why there is no list: the text is not accepted; or its c-uses and p-uses are too many, which is said of its first place.
+pub data Unlisted (source said : List ℕ) : Type 0 where
+  not_accepted : Rejection source said → Unlisted source said
+  too_many : (a : IsAccepted source) (s : Sites) → AreNumbered a.tables.structures (items_of a.tables a.unit) s → AreTooMany a.tables a.unit s → said ≡ refusal_text 51 (record { line = 1; col = 1 }) → Unlisted source said
 
 -- Why a text is refused that is to be run: the front end refuses it, read as a text with probes.
 pub record Unread (source said : List ℕ) : Type 0 where
@@ -75,11 +92,12 @@ abbrev pub counts_text : Counts → List ℕ
 counts_text n =
     codes "accepted: " ++ (decimal n.blocks ++ (codes " blocks, " ++ (decimal n.decisions ++ (codes " decisions, " ++ (decimal n.definitions ++ (codes " definitions, " ++ (decimal n.uses ++ codes " uses\n")))))))
 
--- What a text is read as: refused, with what is said of it; accepted, with its counts; a program to be run; or one to be
--- covered.
+-- What a text is read as: refused, with what is said of it; accepted, with its counts; a program with the list of its items;
+-- one to be run; or one to be covered.
 pub data Reading : Type 0 where
   Refuses : (said : List ℕ) → Reading
   Counted : (n : Counts) → Reading
+  Listed : (text : List ℕ) → Reading
   Runs : (P : Source) → Reading
   Covers : (P : Source) → Reading
 
@@ -97,6 +115,8 @@ pub record IsCovered (source : List ℕ) (P : Source) : Type 0 where
 abbrev pub IsUnderstood : Command → List ℕ → Reading → Type 0
 IsUnderstood (Check program) source (Refuses said) = Rejection source said
 IsUnderstood (Check program) source (Counted n) = IsCounted source n
+IsUnderstood (ListItems program) source (Refuses said) = Unlisted source said
+IsUnderstood (ListItems program) source (Listed text) = IsListing source text
 IsUnderstood (Cover limit program input) source (Refuses said) = Rejection source said
 IsUnderstood (Cover limit program input) source (Covers P) = IsCovered source P
 IsUnderstood (Run limit program input) source (Refuses said) = Unread source said

@@ -4,7 +4,7 @@ use Rattle.atac_top.specs.declared.stop.Stop.{Stop}
 use Rattle.atac_top.specs.declared.stop.Stop.TheVariants as stop
 use Rattle.atac_top.specs.declared.words.Asked.{Asked}
 use Rattle.atac_top.specs.declared.words.Asked.TheVariants as asked
-use Rattle.atac_top.specs.Words.{Command, Check, Cover, Run, turns_most}
+use Rattle.atac_top.specs.Words.{Command, Check, ListItems, Cover, Run, turns_most}
 use Rattle.atac_top.specs.Ends.{End, IsDone, NotAccepted, NotHeld, TooLong, ReadFailed, WriteFailed, OutOfMemory}
 
 abbrev pub end_of : Stop → End
@@ -22,11 +22,13 @@ ended (Err stop) = end_of stop
 
 abbrev pub command_of : Asked → Command
 command_of (asked.Check program) = Check program.now
+command_of (asked.List program) = ListItems program.now
 command_of (asked.Cover limit program input) = Cover limit program.now input.now
 command_of (asked.Run limit program input) = Run limit program.now input.now
 
 -- no more turns are asked for than may be
 abbrev pub IsFew : Asked → Type 0
 IsFew (asked.Check program) = Unit {0}
+IsFew (asked.List program) = Unit {0}
 IsFew (asked.Cover limit program input) = limit ≤ turns_most
 IsFew (asked.Run limit program input) = limit ≤ turns_most

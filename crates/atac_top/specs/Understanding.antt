@@ -8,9 +8,11 @@ use Rattle.c_sites.specs.declared.numbered.Sites.{Sites}
 use Rattle.c_sites.specs.Refused.{AreSites}
 use Rattle.c_meaning.specs.Calls.{Source}
 use Rattle.probe_rules.specs.Simulation.{Simulates}
-use Rattle.atac_top.specs.Programs.{IsAccepted, IsProbed, Rejection, Unread, program_in, lists_in, block_places}
+use Rattle.atac_top.specs.Programs.{IsAccepted, IsListing, IsProbed, Rejection, Unlisted, Unread, program_in, lists_in, block_places}
 use Rattle.atac_top.specs.declared.checking.Checking.{Checking}
 use Rattle.atac_top.specs.declared.checking.Checking.TheVariants as checking
+use Rattle.atac_top.specs.declared.listing.Listing.{Listing}
+use Rattle.atac_top.specs.declared.listing.Listing.TheVariants as listing
 use Rattle.atac_top.specs.declared.program.Understood.{Understood}
 use Rattle.atac_top.specs.declared.program.Reading.{Reading}
 use Rattle.atac_top.specs.declared.program.Reading.TheVariants as reading
@@ -32,6 +34,11 @@ pub record HasSites (source : List ℕ) (p : whole.Program) (s : Sites) : Type 0
 abbrev pub CheckedAs : List ℕ → Checking → Type 0
 CheckedAs source (checking.Refuses said) = Rejection source (string_bytes said)
 CheckedAs source (checking.Accepts p s) = HasSites source p s
+
+-- what the code answers of a text whose items are to be listed
+abbrev pub ListedAs : List ℕ → Listing → Type 0
+ListedAs source (listing.Refuses said) = Unlisted source (string_bytes said)
+ListedAs source (listing.Lists text) = IsListing source text.items
 
 -- what the code answers of a text that is to be covered
 pub record CoveredAs (source : List ℕ) (u : Understood) : Type 0 where

@@ -7,6 +7,8 @@ use Rattle.std.specs.Str.Parse.{digits_value}
 pub data Command : Type 0 where
   -- say whether the program is accepted, and count its sites
   Check : (program : List ℕ) → Command
+  -- list the program's items
+  ListItems : (program : List ℕ) → Command
   -- run the program on the input within so many turns, and report what was covered
   Cover : (limit : ℕ) (program input : List ℕ) → Command
   -- run it, with probes or without, and no more
@@ -38,9 +40,16 @@ runs_within word limit program input =
     (cond (bytes_eq word (codes "cover")) (Some (Cover limit program input)) (cond (bytes_eq word (codes "run")) (Some (Run limit program input)) None))
     None
 
+-- A command that takes a program alone.
+abbrev pub of_program : List ℕ → List ℕ → Option Command
+of_program word program =
+    cond (is_operand program)
+    (cond (bytes_eq word (codes "check")) (Some (Check program)) (cond (bytes_eq word (codes "list")) (Some (ListItems program)) None))
+    None
+
 -- The command that the words are, if they are one. All other words, and no words, are none.
 abbrev pub reads : List (List ℕ) → Option Command
-reads (word ∷ program ∷ []) = cond (bytes_eq word (codes "check") && is_operand program) (Some (Check program)) None
+reads (word ∷ program ∷ []) = of_program word program
 reads (word ∷ program ∷ input ∷ []) = runs_within word turn_limit program input
 reads (word ∷ option ∷ turns ∷ program ∷ input ∷ []) =
     cond (bytes_eq option (codes "-t")) (option_and_then (λ limit. runs_within word limit program input) (limit_of turns)) None
@@ -49,6 +58,7 @@ reads words = None
 -- The name of its program.
 abbrev pub program_of : Command → List ℕ
 program_of (Check program) = program
+program_of (ListItems program) = program
 program_of (Cover limit program input) = program
 program_of (Run limit program input) = program
 
@@ -60,5 +70,6 @@ program_most command = 1048576
 -- The names that a command fetches, in their order.
 abbrev pub fetched : Command → List (List ℕ)
 fetched (Check program) = program ∷ []
+fetched (ListItems program) = program ∷ []
 fetched (Cover limit program input) = program ∷ input ∷ []
 fetched (Run limit program input) = program ∷ input ∷ []

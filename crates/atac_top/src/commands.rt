@@ -1,11 +1,12 @@
 //! What each command fetches, does and puts.
 
 ghost use Rattle.std.specs.Prelude.{◌≤◌, Some};
-ghost use Rattle.atac_top.specs.Words.{Check, Cover, Run};
+ghost use Rattle.atac_top.specs.Words.{Check, Cover, ListItems, Run};
 ghost use Rattle.atac_top.specs.Stops.{command_of, ended, IsFew};
 ghost use Rattle.atac_top.specs.Runs.{Goes};
 
 use crate::checking::{self, Checking, counts_of};
+use crate::listing::{self, Listing};
 use crate::outside::{fetch, put};
 use crate::program::{self, Reading, Runnable, read_to_run, section_of, understand};
 use crate::stop::Stop;
@@ -39,6 +40,24 @@ fn check<'a, S: Shelf, W: Sink>(
     };
     let line = counts_of(alloc, &sites)?;
     put(out, line.as_bytes())
+}
+
+// Puts the list of the program's items.
+fn list<'a, S: Shelf, W: Sink>(
+    alloc: Global,
+    program: &'a str,
+    shelf: &mut S,
+    out: &mut W,
+) -> Result<(), Stop<'a>>
+    ensures { Goes (Some (ListItems program.now)) (S.state shelf.old) (S.state shelf.new)
+        (W.state out.old) (W.state out.new) (ended result) }
+{
+    let source = fetch(alloc, shelf, program, PROGRAM_MOST)?;
+    let text = match listing::list(alloc, source.as_slice())? {
+        Listing::Refuses(said) => return Err(Stop::NotAccepted(program, said)),
+        Listing::Lists(text) => text,
+    };
+    put(out, text.as_slice())
 }
 
 // Runs the program on the input and puts the section and the report.
@@ -101,6 +120,7 @@ pub fn carry_out<'a, S: Shelf, W: Sink>(
 {
     match asked {
         Asked::Check(program) => check(alloc, program, shelf, out),
+        Asked::List(program) => list(alloc, program, shelf, out),
         Asked::Cover(limit, program, input) => cover(alloc, limit, program, input, shelf, out),
         Asked::Run(limit, program, input) => run(alloc, limit, program, input, shelf, out),
     }

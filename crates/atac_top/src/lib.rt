@@ -1,8 +1,9 @@
-//! The top call: reads the words, fetches the files, runs the program, and puts the texts.
+//! The top call: reads the words, fetches the files, lists or runs the program, and puts the texts.
 #![tactic(auto)]
 
 mod checking;
 mod commands;
+mod listing;
 mod outside;
 mod program;
 mod sections;

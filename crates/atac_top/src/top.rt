@@ -72,7 +72,8 @@ fn put_four<E: Sink>(err: &mut E, a: &[u8], b: &[u8], c: &[u8], d: &[u8]) -> Res
 /// Reads the words, does what they ask for, and puts the line of a status other than `Done` to `err`.
 ///
 /// `check P` fetches P, at most 1,048,576 bytes, refuses it where it isn't accepted, and puts the line of its counts to
-/// `out`. `run [-t N] P INPUT` fetches P, which may have probes, at most 67,108,864 bytes, and refuses it where it is no
+/// `out`. `list P` does the same, refuses it where its c-uses and p-uses are more than 1,000,000, and puts the list of its
+/// items. `run [-t N] P INPUT` fetches P, which may have probes, at most 67,108,864 bytes, and refuses it where it is no
 /// program; fetches INPUT, at most 16,777,216 bytes; runs P on it within N turns, from 1 to 100,000,000, or 1,000,000; and puts
 /// the section of this run to `out`. `cover [-t N] P INPUT` refuses P as `check` does, and puts the report of what this run
 /// covers behind the section. All other words are no command. An operand doesn't begin with `-`; an empty one
@@ -99,8 +100,8 @@ pub fn atac<S: Shelf, W: Sink, E: Sink>(
     ensures read_fault { result ≡ Status.ReadFault → Rose (S.state shelf.old).read_faults (S.state shelf.new).read_faults }
     ensures write_fault { result ≡ Status.WriteFault → Rose (W.state out.old).faults (W.state out.new).faults }
 
-    // When the call is done, the sink gained the line of the program's counts; or the section of its own run, as the
-    // meaning of the language has it; and for `cover` the report of the blocks that this run enters.
+    // When the call is done, the sink gained the line of the program's counts; or the list of its items, each pair exactly
+    // where some walk of a function has it; or the section of its own run, as the meaning of the language has it; and for `cover` the report of the blocks that this run enters.
     ensures headline { result ≡ Status.Done → IfSome (reads (map string_bytes words.now.items)) (λ command.
         Shows command (S.state shelf.old).says (W.state out.old) (W.state out.new)) }
 

@@ -1,7 +1,7 @@
 //! The words of a call, and what they ask for.
 
 ghost use Rattle.std.specs.Prelude.{◌≡◌, ◌≤◌, [], ◌∷◌, map, string_bytes, option_map, IfSome};
-ghost use Rattle.atac_top.specs.Words.{is_operand, limit_of, runs_within, reads};
+ghost use Rattle.atac_top.specs.Words.{is_operand, limit_of, of_program, runs_within, reads};
 ghost use Rattle.atac_top.specs.Stops.{command_of, IsFew};
 
 /// The most turns of a run, where the words don't say.
@@ -10,11 +10,12 @@ const TURN_LIMIT: u64 = 1_000_000;
 /// The most that they may say.
 const TURNS_MOST: u64 = 100_000_000;
 
-/// What the words ask for: a program is checked; it is run on an input within so many turns, and what this covers is
-/// reported; or it is run, and no more.
+/// What the words ask for: a program is checked; its items are listed; it is run on an input within so many turns, and
+/// what this covers is reported; or it is run, and no more.
 #[derive(Clone, Copy, Debug)]
 pub enum Asked<'a> {
     Check(&'a str),
+    List(&'a str),
     Cover(u64, &'a str, &'a str),
     Run(u64, &'a str, &'a str),
 }
@@ -55,7 +56,7 @@ pub fn read_words(words: &Vec<String>) -> Option<Asked<'_>>
     ensures few { IfSome result IsFew }
 {
     match words.as_slice() {
-        [word, program] => asks_check(word.as_str(), program.as_str()),
+        [word, program] => asks_of_program(word.as_str(), program.as_str()),
         [word, program, input] => {
             asks_run(word.as_str(), TURN_LIMIT, program.as_str(), input.as_str())
         }
@@ -70,12 +71,18 @@ pub fn read_words(words: &Vec<String>) -> Option<Asked<'_>>
     }
 }
 
-fn asks_check<'a>(word: &str, program: &'a str) -> Option<Asked<'a>>
-    ensures command { option_map command_of result ≡ reads (word.now ∷ program.now ∷ []) }
+fn asks_of_program<'a>(word: &str, program: &'a str) -> Option<Asked<'a>>
+    ensures command { option_map command_of result ≡ of_program word.now program.now }
     ensures few { IfSome result IsFew }
 {
-    if word == "check" && may_be_operand(program) {
+    if !may_be_operand(program) {
+        return None;
+    }
+    if word == "check" {
         return Some(Asked::Check(program));
+    }
+    if word == "list" {
+        return Some(Asked::List(program));
     }
     None
 }

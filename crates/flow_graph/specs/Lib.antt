@@ -1,5 +1,4 @@
-pub mod Paths
-pub mod Counts
-pub mod Laying
-pub mod Listed
-pub mod View
+pub mod Graphs
+pub mod Bodies
+pub mod Flow
+pub mod Programs

@@ -1,15 +1,13 @@
 //! The flow graph of a function: its paths are the function's walks.
 #![tactic(auto)]
 
-pub mod cases;
-pub mod declarations;
-pub mod layer;
-pub mod leaving;
-pub mod nodes;
-pub mod numbers;
-pub mod optional;
-pub mod row;
-pub mod rows;
-pub mod sites;
-pub mod statements;
-pub mod targets;
+mod counting;
+mod flow;
+mod graphs;
+mod laying;
+mod parameters;
+mod programs;
+
+pub use crate::graphs::Graph;
+pub use crate::laying::lay_external;
+pub use crate::programs::graph;

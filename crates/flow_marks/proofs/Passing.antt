@@ -166,7 +166,7 @@ givers_all gives old n le all row h = elim (cases_lt row n) [
   | inr ge ↦ absurd (h (get_or_past gives row 0 (omega arith)))
 ]
 
-pub next_at : (g : List FlowRow) (i : ℕ) (row : FlowRow) → i < length g → row ≡ get_or g i row → next_of (slice_get g i) ≡ row.next
+pub next_at : (g : List FlowRow) (i : ℕ) (row : FlowRow) → i < length g → row ≡ get_or g i row → next_of (slice_get g i) ≡ row.next.items
 next_at g i row lt is = ap next_of (slice_get_read g (length g) i row refl lt is)
 
 module _ (g : List FlowRow) (gives stops : List ℕ) where

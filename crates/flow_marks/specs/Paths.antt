@@ -10,7 +10,7 @@ action_of (Some row) = row.action
 
 abbrev pub next_of : Option FlowRow → List ℕ
 next_of None = []
-next_of (Some row) = row.next
+next_of (Some row) = row.next.items
 
 abbrev pub action_at : List FlowRow → ℕ → Action
 action_at g row = action_of (slice_get g row)

@@ -78,6 +78,17 @@ fn givers(alloc: Global, gives: &[u64]) -> Result<Vec<u32>, NoMemory>
     Ok(rows)
 }
 
+// The same, the first of them on top: what it gives goes along with what later ones give, so they needn't be gone through again.
+fn givers_in_turn(alloc: Global, gives: &[u64]) -> Result<Vec<u32>, NoMemory>
+    requires { length gives.now < 2 ^ 32 }
+    ensures all { IfOk result (λ rows. (row : ℕ) → (get_or gives.now row 0 ≡ 0 → ⊥) → Contains rows.items row) }
+    ensures within { IfOk result (λ rows. (row : ℕ) → Contains rows.items row → row < length gives.now) }
+{
+    let mut rows = givers(alloc, gives)?;
+    rows.reverse();
+    Ok(rows)
+}
+
 fn nothing(alloc: Global, rows: usize) -> Result<Vec<u64>, NoMemory>
     ensures size { IfOk result (λ held. length held.items ≡ rows) }
     ensures none { IfOk result (λ held. (row : ℕ) → get_or held.items row 0 ≡ 0) }
@@ -104,12 +115,12 @@ pub fn arrivals(
     ensures complete { IfOk result (λ held. (row i : ℕ) → Arrives flow.now gives.now stops.now row i → HasBit held.items row i) }
 {
     let mut held = nothing(alloc, flow.len())?;
-    let mut waiting = givers(alloc, gives)?;
+    let mut waiting = givers_in_turn(alloc, gives)?;
     while let Some(from) = take(&mut waiting) {
         let row = from as usize;
         let word = let_out(gives[row], held[row], stops[row]);
         let it = &flow[row];
-        spread(&mut held, &mut waiting, word, it.next.numbers())?;
+        spread(&mut held, &mut waiting, word, &it.next)?;
     }
     Ok(held)
 }

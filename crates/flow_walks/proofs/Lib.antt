@@ -1,2 +1,4 @@
 pub mod More
+pub mod Appended
+pub mod Ranges
 mod Worked

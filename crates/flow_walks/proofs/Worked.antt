@@ -76,11 +76,11 @@ counting = main_with (int_i 20)
 
 -- the loop is passed by: its test is a block, and what stands behind the loop is one
 passed_by : IsWalk counting (act (Block 1) ∷ act (Kill 1) ∷ act (Define 1) ∷ act (Block 2) ∷ act (Use 1) ∷ act (Test 1 2) ∷ act (Block 4) ∷ act (Use 3) ∷ leave ∷ [])
-passed_by = (refl, (refl, (refl, (1, (refl, (refl, inr (refl, (refl, (refl, (refl, tt))))))))))
+passed_by = inl (refl, (refl, (refl, (refl, (1, (refl, (refl, inr (refl, (refl, (refl, (refl, tt)))))))))))
 
 -- one turn, whose body is a block
 one_turn : IsWalk counting (act (Block 1) ∷ act (Kill 1) ∷ act (Define 1) ∷ act (Block 2) ∷ act (Use 1) ∷ act (Test 1 1) ∷ act (Block 3) ∷ act (Use 2) ∷ act (Define 2) ∷ act (Block 2) ∷ act (Use 1) ∷ act (Test 1 2) ∷ [])
-one_turn = (refl, (refl, (refl, (2, (refl, (refl, inl (refl, (refl, (refl, (refl, (refl, (refl, inr (refl, tt)))))))))))))
+one_turn = inl (refl, (refl, (refl, (refl, (2, (refl, (refl, inl (refl, (refl, (refl, (refl, (refl, (refl, inr (refl, tt))))))))))))))
 
 abbrev block_in : Met → ℕ
 block_in (act (Block n)) = n
@@ -92,7 +92,8 @@ none_of a v once h (suc n) p = h (turns n once) p
 
 -- the use in the loop's body comes only behind the loop's blocks
 no_use_at_once : IsWalk counting (act (Block 1) ∷ act (Kill 1) ∷ act (Define 1) ∷ act (Use 2) ∷ []) → ⊥
-no_use_at_once p = none_of (act (Use 2)) [] _ (λ j q. let e = ap block_in q.0 in absurd (omega arith)) p.1.1.1.0 p.1.1.1.1
+no_use_at_once (inl p) = none_of (act (Use 2)) [] _ (λ j q. let e = ap block_in q.0 in absurd (omega arith)) p.1.1.1.1.0 p.1.1.1.1.1
+no_use_at_once (inr p) = p
 
 -- int main(void){int i=0;return i;i++;}
 abbrev returning : UnitShape
@@ -102,4 +103,5 @@ returning = main_with (int_i 20)
 
 -- what stands behind a `return` is not met
 not_behind_return : IsWalk returning (act (Block 1) ∷ act (Kill 1) ∷ act (Define 1) ∷ act (Use 1) ∷ act (Block 2) ∷ []) → ⊥
-not_behind_return p = let e = ap block_in p.1.1.1.1.0 in absurd (omega arith)
+not_behind_return (inl p) = let e = ap block_in p.1.1.1.1.1.0 in absurd (omega arith)
+not_behind_return (inr p) = p

@@ -1,5 +1,5 @@
 -- The walks of a function: what its parameters and its body meet, from its call on.
-use Rattle.std.specs.Prelude.{◌≡◌, ℕ, ◌++◌, nat_eq, Contains, List, [], ◌∷◌}
+use Rattle.std.specs.Prelude.{◌≡◌, ◌⊎◌, ℕ, ◌++◌, Contains, List, [], ◌∷◌}
 use Rattle.c_syntax.specs.Shape.{DeclShape, decl, DeclShapes, no_decls, more_decls, DeclaratorShape, declarator, DeclaratorShapes, no_declarators, more_declarators, DeclFormShape, arrays, function, empty, void, params, CompoundShape, braces, ExternalShape, defined, declared, UnitShape}
 use Rattle.c_tables.specs.Tables.{TablesShape}
 use Rattle.c_tables.specs.Rows.{text_of}
@@ -10,7 +10,7 @@ use Rattle.c_walk.specs.Units as units
 use Rattle.c_walk.specs.Units.{function_of, in_function, define_declarator, define_decl, define_parameters, walk_external}
 use Rattle.flow_walks.specs.declared.action.Action.{Action}
 use Rattle.flow_walks.specs.declared.action.Action.TheVariants.{Define, Block}
-use Rattle.flow_walks.specs.Comes.{Met, act, enter, leave, Comes, ends, emit, choice}
+use Rattle.flow_walks.specs.Comes.{Met, act, enter, leave, Comes, ends, emit}
 use Rattle.flow_walks.specs.Statements.{Exits, compound_goes}
 
 -- ---- parameters: each is defined, in their order
@@ -47,14 +47,14 @@ function_goes t f d (braces p ds items) s =
     let j = define_parameters t f d s in
     parameters_go t f d s (emit (act (Block (next_block j))) (compound_goes t (in_function f) (braces p ds items) (with_block p j) body_exits))
 
--- the function of that number, among external declarations behind these items
-abbrev pub external_goes : TablesShape → ℕ → ExternalShape → Walked → Comes → Comes
-external_goes t f (declared d) s k = k
-external_goes t f (defined specs (declarator stars x d i) marks c) s k = choice (nat_eq (function_of t (text_of x)) f) (function_goes t f d c s) k
+-- a function of that number, among external declarations behind these items; a program has one at most
+abbrev pub external_goes : TablesShape → ℕ → ExternalShape → Walked → Comes
+external_goes t f (declared d) s w = ⊥
+external_goes t f (defined specs (declarator stars x d i) marks c) s w = (function_of t (text_of x) ≡ f) × function_goes t f d c s w
 
 abbrev pub externals_go : TablesShape → ℕ → List ExternalShape → Walked → Comes
-externals_go t f [] s = λ w. ⊥
-externals_go t f (e ∷ rest) s = external_goes t f e s (externals_go t f rest (walk_external t e s))
+externals_go t f [] s w = ⊥
+externals_go t f (e ∷ rest) s w = external_goes t f e s w ⊎ externals_go t f rest (walk_external t e s) w
 
 -- ---- walks
 

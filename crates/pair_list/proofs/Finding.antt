@@ -16,7 +16,8 @@ use Rattle.c_sites.specs.declared.lists.DefSite.{DefSite}
 use Rattle.c_sites.specs.declared.numbered.Sites.{Sites}
 use Rattle.pair_list.specs.declared.marks.Mark.{Mark}
 use Rattle.pair_list.specs.Sites.{IsDef}
-use Rattle.pair_list.specs.Listed.{Ends, Share, IsFound}
+use Rattle.pair_list.specs.Listed.{Ends, Share}
+use Rattle.pair_list.specs.Found.{IsFound}
 use Rattle.pair_list.specs.Marks.{IsMark, HasMark, AreMarks, EndsMark, Meets, Finds}
 use Rattle.pair_list.specs.Masks.{MarkAt, IsMask, AreReached, AreGiven, AreStopped, IsEntry}
 use Rattle.pair_list.specs.Hits.{MeetsOne, UseMeets, RowHits, SomeHits, FindsOne, FindsAny, AddsBits}
@@ -46,6 +47,9 @@ rows_more d R old new n x size e each here = (
         subst (R row) (sym (ap (λ l. get_or l row d) e ∙ subst (λ i. get_or (old ++ x ∷ []) i d ≡ x) at (push_last d old x))) (subst (λ r. R r x) same here))
   ]),
 )
+
+pub size_more : (old new : List ℕ) (n x : ℕ) → length old ≡ n → new ≡ old ++ x ∷ [] → length new ≡ n + 1
+size_more old new n x size e = omega (arith, ap length e, length-append old (x ∷ []))
 
 pub given_at : (g : List FlowRow) (marks : List Mark) (start row word : ℕ) (flags : List Bool) (flag : Bool) (a : Action) → AreReached g flags → row < length g → get_or flags row false ≡ flag → a ≡ action_at g row → IsMask marks start (λ m. (flag ≡ true) × (a ≡ Define m.def)) word → IsMask marks start (λ m. IsReached g row × (action_at g row ≡ Define m.def)) word
 given_at g marks start row word flags flag a r lt is act mask = mask_same marks start (λ m. (flag ≡ true) × (a ≡ Define m.def)) (λ m. IsReached g row × (action_at g row ≡ Define m.def)) word

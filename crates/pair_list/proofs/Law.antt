@@ -8,7 +8,8 @@ use Rattle.flow_walks.specs.declared.action.Action.TheVariants.{Define, Use, Blo
 use Rattle.c_sites.specs.declared.numbered.Sites.{Sites}
 use Rattle.flow_marks.specs.declared.flow.FlowRow.{FlowRow}
 use Rattle.flow_marks.specs.Paths.{action_of, next_of, action_at, IsStep, IsPath, put, spelled, Spells, Way, Leads, IsReached}
-use Rattle.pair_list.specs.Listed.{Ends, IsPair, IsFound}
+use Rattle.pair_list.specs.Listed.{Ends, IsPair}
+use Rattle.pair_list.specs.Found.{IsFound}
 
 -- an action is Nothing and left out, or stands first
 put_cases : (a : Action) → ((a ≡ Nothing) × ((w : List Action) → put a w ≡ w)) ⊎ ((w : List Action) → put a w ≡ a ∷ w)

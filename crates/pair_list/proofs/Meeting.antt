@@ -16,27 +16,47 @@ use Rattle.c_sites.specs.declared.numbered.Sites.{Sites}
 use Rattle.pair_list.specs.declared.marks.Mark.{Mark}
 use Rattle.pair_list.specs.Marks.{Meets}
 use Rattle.pair_list.specs.Masks.{MarkAt}
-use Rattle.pair_list.specs.Hits.{MeetsOne, UseMeets, RowHits, SomeHits, AddsBits}
+use Rattle.pair_list.specs.Hits.{MeetsOne, DefOf, UseMeets, RowHits, SomeHits, AddsBits}
 use Rattle.pair_list.proofs.Making.{not_some, some_is}
 
--- one of the first n marks of a word
-abbrev pub MeetsBelow : List Mark → ℕ → ℕ → ℕ → UseSite → ℕ → ℕ → Type 0
-MeetsBelow marks start first word used n j = (i : ℕ) × (i < n) × (bit_at word i ≡ 1) × MarkAt marks (start + i) (λ m. Meets used m × (m.def ≡ first + j))
+-- the definitions of the marks of a word: some of them are found, the others' marks are left
+pub record DefsLeft (marks : List Mark) (start first word left bits : ℕ) : Type 0 where
+  pub sub : (i : ℕ) → bit_at left i ≡ 1 → bit_at word i ≡ 1
+  pub sound : (j : ℕ) → bit_at bits j ≡ 1 → DefOf marks start first word j
+  pub all : (i j : ℕ) → bit_at word i ≡ 1 → MarkAt marks (start + i) (λ m. m.def ≡ first + j) → (bit_at left i ≡ 1) ⊎ (bit_at bits j ≡ 1)
 
-pub meets_start : (marks : List Mark) (start first word : ℕ) (used : UseSite) (j : ℕ) → (bit_at 0 j ≡ 1) ↔ MeetsBelow marks start first word used 0 j
-meets_start marks start first word used j = ((λ e. absurd (let z = bit_at-zero j in omega arith)), (λ h. absurd (let lt = h.1 in omega arith)))
+pub defs_start : (marks : List Mark) (start first word : ℕ) → DefsLeft marks start first word word 0
+defs_start marks start first word = record { sub = λ i h. h; sound = λ j h. absurd (let z = bit_at-zero j in omega arith); all = λ i j h m. inl h }
 
-pub meets_more : (marks : List Mark) (start first word : ℕ) (used : UseSite) (n at old new : ℕ) (came : Bool) (met : Option ℕ) → at ≡ start + n → ((j : ℕ) → (bit_at old j ≡ 1) ↔ MeetsBelow marks start first word used n j) → ((came ≡ true) ↔ (bit_at word n ≡ 1)) → ((j : ℕ) → (met ≡ Some j) ↔ ((came ≡ true) × MarkAt marks at (λ m. Meets used m × (m.def ≡ first + j)))) → ((j : ℕ) → (bit_at new j ≡ 1) ↔ ((bit_at old j ≡ 1) ⊎ (met ≡ Some j))) → (j : ℕ) → (bit_at new j ≡ 1) ↔ MeetsBelow marks start first word used (n + 1) j
-meets_more marks start first word used n at old new came met e is comes meets bits j = (
-  (λ h. elim ((bits j).0 h) [
-    | inl was ↦ (let p = (is j).0 was in let lt = p.1 in (p.0, omega arith, p.2, p.3))
-    | inr now ↦ (let p = (meets j).0 now in (n, omega arith, comes.0 p.0, subst (λ k. MarkAt marks k (λ m. Meets used m × (m.def ≡ first + j))) e p.1))
+pub defs_more : (marks : List Mark) (start first word left bits i at d left' bits' : ℕ) → at ≡ start + i → bit_at left i ≡ 1 → DefsLeft marks start first word left bits → ((j : ℕ) → (j ≡ d) ↔ MarkAt marks at (λ m. m.def ≡ first + j)) → ((j : ℕ) → (bit_at bits' j ≡ 1) ↔ ((bit_at bits j ≡ 1) ⊎ ((j ≡ d) × (true ≡ true)))) → ((j : ℕ) → (bit_at left' j ≡ 1) ↔ ((bit_at left j ≡ 1) × (j ≡ i → ⊥))) → DefsLeft marks start first word left' bits'
+defs_more marks start first word left bits i at d left' bits' e has l def put took = record {
+  sub = λ q h. l.sub q ((took q).0 h).0;
+  sound = λ j h. elim ((put j).0 h) [
+    | inl was ↦ l.sound j was
+    | inr now ↦ (i, l.sub i has, subst (λ q. MarkAt marks q (λ m. m.def ≡ first + j)) e ((def j).0 now.0))
+  ];
+  all = λ q j h m. elim (l.all q j h m) [
+    | inr b ↦ inr ((put j).1 (inl b))
+    | inl b ↦ elim (same_or_not q i) [
+      | inl same ↦ inr ((put j).1 (inr ((def j).1 (subst (λ q. MarkAt marks q (λ m. m.def ≡ first + j)) (omega arith) m), refl)))
+      | inr ne ↦ inl ((took q).1 (b, ne))
+    ]
+  ];
+}
+
+pub defs_end : (marks : List Mark) (start first word left bits : ℕ) → left ≡ 0 → DefsLeft marks start first word left bits → (j : ℕ) → (bit_at bits j ≡ 1) ↔ DefOf marks start first word j
+defs_end marks start first word left bits e l j = (
+  (λ h. l.sound j h),
+  (λ d. elim (l.all d.0 j d.1 d.2) [
+    | inl b ↦ absurd (let z : bit_at left d.0 ≡ 0 = ap (λ w. bit_at w d.0) e ∙ bit_at-zero d.0 in omega arith)
+    | inr b ↦ b
   ]),
-  (λ h. elim (cases_lt h.0 n) [
-    | inl less ↦ (bits j).1 (inl ((is j).1 (h.0, less, h.2, h.3)))
-    | inr ge ↦ (let lt = h.1 in let same : h.0 ≡ n = omega arith in
-        (bits j).1 (inr ((meets j).1 (comes.1 (subst (λ i. bit_at word i ≡ 1) same h.2), subst (λ k. MarkAt marks k (λ m. Meets used m × (m.def ≡ first + j))) (ap (λ i. start + i) same ∙ sym e) h.3))))
-  ]),
+)
+
+pub defs_meet : (marks : List Mark) (start first came word : ℕ) (used : UseSite) → ((i : ℕ) → (bit_at word i ≡ 1) ↔ ((i < 64) × (bit_at came i ≡ 1) × MarkAt marks (start + i) (λ m. Meets used m))) → (j : ℕ) → DefOf marks start first word j ↔ MeetsOne marks start first came used j
+defs_meet marks start first came word used w j = (
+  (λ d. let h = (w d.0).0 d.1 in (d.0, h.0, h.1, (d.2.0, d.2.1, (subst (Meets used) (some_is h.2.0 d.2.0 (sym h.2.1 ∙ d.2.1)) h.2.2, d.2.2)))),
+  (λ o. (o.0, (w o.0).1 (o.1, o.2, (o.3.0, o.3.1, o.3.2.0)), (o.3.0, o.3.1, o.3.2.1))),
 )
 
 -- bits that are added

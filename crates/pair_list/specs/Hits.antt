@@ -18,6 +18,10 @@ use Rattle.pair_list.specs.Masks.{MarkAt}
 abbrev pub MeetsOne : List Mark → ℕ → ℕ → ℕ → UseSite → ℕ → Type 0
 MeetsOne marks start first word used j = (i : ℕ) × (i < 64) × (bit_at word i ≡ 1) × MarkAt marks (start + i) (λ m. Meets used m × (m.def ≡ first + j))
 
+-- one of the marks of a word is of the definition first + j
+abbrev pub DefOf : List Mark → ℕ → ℕ → ℕ → ℕ → Type 0
+DefOf marks start first word j = (i : ℕ) × (bit_at word i ≡ 1) × MarkAt marks (start + i) (λ m. m.def ≡ first + j)
+
 -- the use u stands in the function, and such a mark meets it
 pub record UseMeets (s : Sites) (f : ℕ) (marks : List Mark) (start first word u j : ℕ) : Type 0 where
   pub used : UseSite

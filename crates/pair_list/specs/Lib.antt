@@ -2,5 +2,10 @@ pub mod Sites
 pub mod Listed
 pub mod Marks
 pub mod Masks
+pub mod Tables
 pub mod Hits
 pub mod PairLists
+pub mod Found
+pub mod Items
+pub mod Runs
+pub mod Placed

@@ -1,12 +1,10 @@
--- Which pairs of a definition and a use are listed: twice, by walks and by rows.
-use Rattle.std.specs.Prelude.{ℕ, ◌≤◌, List, ◌∷◌, ◌++◌, ◌≡◌, Some, Contains}
+-- Which pairs of a definition and a use are listed, by walks.
+use Rattle.std.specs.Prelude.{ℕ, List, ◌∷◌, ◌++◌, ◌≡◌, Some, Contains}
 use Rattle.flow_walks.specs.declared.action.Action.{Action}
 use Rattle.flow_walks.specs.declared.action.Action.TheVariants.{Define, Use, Block, Test, Kill, Nothing}
 use Rattle.c_sites.specs.declared.lists.DefSite.{DefSite}
 use Rattle.c_sites.specs.declared.lists.UseSite.{UseSite}
 use Rattle.c_sites.specs.declared.numbered.Sites.{Sites}
-use Rattle.flow_marks.specs.declared.flow.FlowRow.{FlowRow}
-use Rattle.flow_marks.specs.Paths.{action_at, Leads, IsReached}
 use Rattle.pair_list.specs.Sites.{IsDef, IsUse, IsStrong}
 
 -- after this action what was defined before under the leaf name n of the variable x no longer stands: another definition
@@ -42,15 +40,3 @@ pub record IsPair (walk : List Action → Type 0) (s : Sites) (f d u : ℕ) : Ty
   pub after : List Action
   pub is_walk : walk (before ++ Define d ∷ (between ++ Use u ∷ after))
   pub stands : (a : Action) → Contains between a → Ends s variable name a → ⊥
-
--- from a row of the definition, which is reached, rows that don't end what was defined lead to a row of the use
-pub record IsFound (g : List FlowRow) (s : Sites) (f d u : ℕ) : Type 0 where
-  pub variable : ℕ
-  pub name : ℕ
-  pub sites : Share s f variable name d u
-  pub from : ℕ
-  pub to : ℕ
-  pub reached : IsReached g from
-  pub defines : action_at g from ≡ Define d
-  pub uses : action_at g to ≡ Use u
-  pub leads : Leads g (λ row. Ends s variable name (action_at g row)) from to

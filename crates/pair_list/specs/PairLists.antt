@@ -6,10 +6,7 @@ use Rattle.c_base.specs.declared.labels.OutcomeLabel.{OutcomeLabel}
 use Rattle.c_sites.specs.declared.lists.Decision.{Decision}
 use Rattle.c_sites.specs.declared.lists.UseSite.{UseSite}
 use Rattle.c_sites.specs.declared.numbered.Sites.{Sites}
-use Rattle.flow_marks.specs.declared.flow.FlowRow.{FlowRow}
-use Rattle.flow_marks.specs.Paths.{Spells}
 use Rattle.pair_list.specs.declared.pairs.Pair.{Pair}
-use Rattle.pair_list.specs.Listed.{IsPair, IsFound}
 
 -- ys are those of xs that P holds of, in their order
 abbrev pub AreThose : (Pair → Type 0) → List Pair → List Pair → Type 0
@@ -67,14 +64,6 @@ pub record HasMore (P : Pair → Type 0) (all : List Pair) (s : Sites) (base : L
 -- those of all that P holds of are put behind the others
 abbrev pub Appends : (Pair → Type 0) → List Pair → List Pair → List Pair → Type 0
 Appends P all old new = (some : List Pair) × AreThose P all some × (new ≡ old ++ some)
-
--- the pair, by rows
-abbrev pub IsFoundPair : List FlowRow → Sites → ℕ → Pair → Type 0
-IsFoundPair g s f p = IsFound g s f p.def p.used
-
--- the pair, by what the paths from row 0 spell
-abbrev pub IsSpelledPair : List FlowRow → Sites → ℕ → Pair → Type 0
-IsSpelledPair g s f p = IsPair (Spells g 0) s f p.def p.used
 
 -- ---- pairs that bits say
 

@@ -4,87 +4,69 @@ ghost use Rattle.std.specs.Prelude.{◌≡◌, ◌↔◌, ◌<◌, ◌≤◌, �
 ghost use Rattle.std.specs.Int.{bit_at};
 ghost use Rattle.std.proofs.Math.ListN.{get_or};
 ghost use Rattle.pair_list.specs.declared.marks.Mark.{Mark as MarkOf};
-ghost use Rattle.pair_list.specs.Marks.{Meets};
+ghost use Rattle.pair_list.specs.Tables.{AreTables};
 ghost use Rattle.pair_list.specs.Masks.{MarkAt};
-ghost use Rattle.pair_list.specs.Hits.{MeetsOne, UseMeets, RowHits, SomeHits, AddsBits};
+ghost use Rattle.pair_list.specs.Hits.{DefOf, UseMeets, RowHits, SomeHits, AddsBits};
 
+use crate::lookup::met;
 use crate::marks::Mark;
 use crate::masks::with_bit;
+use crate::tables::Tables;
 use c_base::place::NoMemory;
-use c_sites::lists::UseSite;
 use c_sites::numbered::Sites;
 use flow_marks::flow::FlowRow;
 use flow_walks::action::Action;
 use std::alloc::Global;
 
-fn has_name(used: &UseSite, name: u32) -> bool
-    ensures { IsTrue result ↔ Contains used.now.names name }
+// The lowest bit of a word.
+fn lowest(word: u64) -> u32
+    requires { 0 < word }
+    ensures within { result < 64 }
+    ensures has { bit_at word result ≡ 1 }
 {
-    used.names.numbers().contains(&name)
+    word.trailing_zeros()
 }
 
-fn meets(used: &UseSite, mark: &Mark) -> bool
-    ensures { (result ≡ true) ↔ Meets used.now mark.now }
+// The word without a bit that it has.
+fn without(word: u64, i: u32) -> u64
+    requires within { i < 64 }
+    requires has { bit_at word i ≡ 1 }
+    ensures bits { (j : ℕ) → (bit_at result j ≡ 1) ↔ ((bit_at word j ≡ 1) × (j ≡ i → ⊥)) }
+    ensures less { result < word }
 {
-    match used.variable {
-        None => false,
-        Some(variable) => variable == mark.variable && has_name(used, mark.name),
-    }
+    word & !(1u64 << i)
 }
 
-fn has_bit(word: u64, i: u32) -> bool
-    requires { i < 64 }
-    ensures { (result ≡ true) ↔ (bit_at word i ≡ 1) }
-{
-    (word >> i) & 1 == 1
-}
-
-// The definition of a mark that came, as it counts from the first one, if it meets the use.
-fn met(marks: &[Mark], at: usize, first: u16, came: bool, used: &UseSite) -> Option<u16>
-    requires { (i : ℕ) (m : MarkOf) → slice_get marks.now i ≡ Some m → first ≤ m.def }
-    ensures { (j : ℕ) → (result ≡ Some j) ↔ ((came ≡ true) × MarkAt marks.now at (λ m. Meets used.now m × (m.def ≡ first + j))) }
-{
-    if !came {
-        return None;
-    }
-    if at >= marks.len() {
-        return None;
-    }
-    let mark = &marks[at];
-    if meets(used, mark) {
-        Some(mark.def - first)
-    } else {
-        None
-    }
-}
-
-fn with_met(word: u64, met: Option<u16>) -> u64
-    requires { (j : ℕ) → met ≡ Some j → j < 64 }
-    ensures { (j : ℕ) → (bit_at result j ≡ 1) ↔ ((bit_at word j ≡ 1) ⊎ (met ≡ Some j)) }
-{
-    match met {
-        None => word,
-        Some(j) => with_bit(word, j as u32, true),
-    }
-}
-
-// The definitions, as they count from the first one, of the marks that came and meet the use.
-#[tactic(auto, using(crate::proofs::Meeting::meets_start))]
-fn met_bits(marks: &[Mark], start: usize, first: u16, came: u64, used: &UseSite) -> u64
-    requires start { start < 2 ^ 63 }
+// The definition of a mark, as it counts from the first one.
+fn def_at(marks: &[Mark], at: usize, first: u16) -> u32
+    requires there { at < length marks.now }
     requires within { (i : ℕ) (m : MarkOf) → slice_get marks.now i ≡ Some m → (first ≤ m.def) × (m.def < first + 64) }
-    ensures { (j : ℕ) → (bit_at result j ≡ 1) ↔ MeetsOne marks.now start first came used.now j }
+    ensures within { result < 64 }
+    ensures def { (j : ℕ) → (j ≡ result) ↔ MarkAt marks.now at (λ m. m.def ≡ first + j) }
 {
-    let mut word = 0;
-    for i in 0..64u32 {
-        let one = met(marks, start + i as usize, first, has_bit(came, i), used);
-        word = with_met(word, one);
-    }
-    word
+    (marks[at].def - first) as u32
 }
 
-// Bits are added to one word.
-fn add_bits(hits: &mut Vec<u64>, k: usize, word: u64)
+// The definitions of the marks of a word, as they count from the first one.
+fn defs_of(marks: &[Mark], start: usize, first: u16, word: u64) -> u64
+    requires start { start < 2 ^ 63 }
+    requires there { (i : ℕ) → bit_at word i ≡ 1 → (i < 64) × (start + i < length marks.now) }
+    requires within { (i : ℕ) (m : MarkOf) → slice_get marks.now i ≡ Some m → (first ≤ m.def) × (m.def < first + 64) }
+    ensures { (j : ℕ) → (bit_at result j ≡ 1) ↔ DefOf marks.now start first word j }
+{
+    let mut bits = 0;
+    let mut left = word;
+    while left != 0 {
+        let i = lowest(left);
+        let j = def_at(marks, start + i as usize, first);
+        bits = with_bit(bits, j, true);
+        left = without(left, i);
+    }
+    bits
+}
+
+/// Adds bits to one word.
+pub fn add_bits(hits: &mut Vec<u64>, k: usize, word: u64)
     requires { k < length hits.old.items }
     ensures { AddsBits (λ q j. (q ≡ k) × (bit_at word j ≡ 1)) hits.old.items hits.new.items }
 {
@@ -101,9 +83,11 @@ fn row_bits(
     marks: &[Mark],
     start: usize,
     first: u16,
+    tables: &Tables,
 ) -> u64
     requires start { start < 2 ^ 63 }
     requires within { (i : ℕ) (m : MarkOf) → slice_get marks.now i ≡ Some m → (first ≤ m.def) × (m.def < first + 64) }
+    requires tables { AreTables marks.now start tables.now }
     ensures { (j : ℕ) → (bit_at result j ≡ 1) ↔ UseMeets sites.now function marks.now start first came u j }
 {
     if came == 0 {
@@ -119,7 +103,9 @@ fn row_bits(
     if used.function != function {
         return 0;
     }
-    met_bits(marks, start, first, came, used)
+    let word = met(tables, came, used);
+    let bits = defs_of(marks, start, first, word);
+    bits
 }
 
 // The number of a use as it counts from the low one, if it is below the length.
@@ -144,16 +130,18 @@ fn hit_row(
     marks: &[Mark],
     start: usize,
     first: u16,
+    tables: &Tables,
 )
     requires start { start < 2 ^ 63 }
     requires within { (i : ℕ) (m : MarkOf) → slice_get marks.now i ≡ Some m → (first ≤ m.def) × (m.def < first + 64) }
+    requires tables { AreTables marks.now start tables.now }
     ensures { AddsBits (λ k j. RowHits sites.now function marks.now start first came action (low + k) j) hits.old.items hits.new.items }
 {
     if let Action::Use(u) = action {
         match index_of(u, low, hits.len()) {
             None => (),
             Some(k) => {
-                let word = row_bits(came, u, sites, function, marks, start, first);
+                let word = row_bits(came, u, sites, function, marks, start, first, tables);
                 add_bits(hits, k, word);
             }
         }
@@ -172,16 +160,18 @@ pub fn hit_rows(
     marks: &[Mark],
     start: usize,
     first: u16,
+    tables: &Tables,
 )
     requires start { start < 2 ^ 63 }
     requires size { length came.now ≡ length flow.now }
     requires within { (i : ℕ) (m : MarkOf) → slice_get marks.now i ≡ Some m → (first ≤ m.def) × (m.def < first + 64) }
+    requires tables { AreTables marks.now start tables.now }
     ensures { AddsBits (λ k j. SomeHits flow.now sites.now function marks.now start first came.now (length flow.now) (low + k) j) hits.old.items hits.new.items }
 {
     for row in 0..flow.len() {
         let action = flow[row].action;
         hit_row(
-            hits, low, came[row], action, sites, function, marks, start, first,
+            hits, low, came[row], action, sites, function, marks, start, first, tables,
         );
     }
 }

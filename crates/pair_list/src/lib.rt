@@ -1,7 +1,12 @@
-//! The pairs of a definition and a use, by the rows of one function.
+//! The pairs of a definition and a use, and the items of a program.
 #![tactic(auto)]
 
+mod externals;
+mod filling;
 mod hits;
+mod kinds;
+mod listing;
+mod lookup;
 mod mark_lists;
 mod marks;
 mod masks;
@@ -13,3 +18,6 @@ mod rows;
 pub mod runs;
 mod spans;
 mod strength;
+mod tables;
+
+pub use crate::listing::list;

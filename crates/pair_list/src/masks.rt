@@ -1,20 +1,18 @@
 //! Words with a bit for each of 64 marks.
 
-ghost use Rattle.std.specs.Prelude.{◌≡◌, ◌↔◌, ◌<◌, ◌≤◌, ◌+◌, ◌^◌, ◌⊎◌, ℕ, IsTrue, true, false, length, IfOk, OnOk, Contains, Some, slice_get};
+ghost use Rattle.std.specs.Prelude.{◌≡◌, ◌↔◌, ◌<◌, ◌≤◌, ◌+◌, ◌^◌, ◌⊎◌, ℕ, List, true, Some, slice_get};
 ghost use Rattle.std.specs.Int.{bit_at};
-ghost use Rattle.std.proofs.Math.ListN.{get_or};
 ghost use Rattle.flow_walks.specs.declared.action.Action.TheVariants.{Define};
 ghost use Rattle.pair_list.specs.declared.marks.Mark.{Mark as MarkOf};
 ghost use Rattle.pair_list.specs.Marks.{EndsMark};
-ghost use Rattle.pair_list.specs.Masks.{MarkAt, IsMask, AreReached, AreGiven, AreStopped};
+ghost use Rattle.pair_list.specs.Masks.{MarkAt, IsMask};
+ghost use Rattle.pair_list.specs.Tables.{AreTables};
 
+use crate::lookup::{ended, of_variable};
 use crate::marks::Mark;
-use c_base::place::NoMemory;
-use c_sites::lists::DefSite;
+use crate::tables::Tables;
 use c_sites::numbered::Sites;
-use flow_marks::flow::FlowRow;
 use flow_walks::action::Action;
-use std::alloc::Global;
 
 /// The word, with that bit too if it is set.
 pub fn with_bit(word: u64, i: u32, set: bool) -> u64
@@ -30,34 +28,10 @@ fn is_of(marks: &[Mark], at: usize, d: u16) -> bool
     at < marks.len() && marks[at].def == d
 }
 
-fn is_of_variable(marks: &[Mark], at: usize, variable: u32) -> bool
-    ensures { (result ≡ true) ↔ MarkAt marks.now at (λ m. variable ≡ m.variable) }
+fn is_strong_at(marks: &[Mark], at: usize) -> bool
+    ensures { (result ≡ true) ↔ MarkAt marks.now at (λ m. m.strong ≡ true) }
 {
-    at < marks.len() && marks[at].variable == variable
-}
-
-fn has_name(def: &DefSite, name: u32) -> bool
-    ensures { IsTrue result ↔ Contains def.now.names name }
-{
-    def.names.numbers().contains(&name)
-}
-
-fn is_ended(mark: &Mark, def: &DefSite) -> bool
-    ensures { (result ≡ true) ↔ ((def.now.variable ≡ Some mark.now.variable) × Contains def.now.names mark.now.name × (mark.now.strong ≡ true)) }
-{
-    if !mark.strong {
-        return false;
-    }
-    match def.variable {
-        None => false,
-        Some(variable) => variable == mark.variable && has_name(def, mark.name),
-    }
-}
-
-fn is_ended_at(marks: &[Mark], at: usize, def: &DefSite) -> bool
-    ensures { (result ≡ true) ↔ MarkAt marks.now at (λ m. (def.now.variable ≡ Some m.variable) × Contains def.now.names m.name × (m.strong ≡ true)) }
-{
-    at < marks.len() && is_ended(&marks[at], def)
+    at < marks.len() && marks[at].strong
 }
 
 // The marks of a definition.
@@ -73,28 +47,15 @@ fn marks_of_def(marks: &[Mark], start: usize, d: u16) -> u64
     word
 }
 
-// The marks of a variable.
+/// The marks that name one cell.
 #[tactic(auto, using(crate::proofs::Masking::mask_start))]
-fn marks_of_variable(marks: &[Mark], start: usize, variable: u32) -> u64
+pub fn strong_marks(marks: &[Mark], start: usize) -> u64
     requires { start < 2 ^ 63 }
-    ensures { IsMask marks.now start (λ m. variable ≡ m.variable) result }
+    ensures { IsMask marks.now start (λ m. m.strong ≡ true) result }
 {
     let mut word = 0;
     for i in 0..64u32 {
-        word = with_bit(word, i, is_of_variable(marks, start + i as usize, variable));
-    }
-    word
-}
-
-// The marks that a definition ends.
-#[tactic(auto, using(crate::proofs::Masking::mask_start))]
-fn marks_ended(marks: &[Mark], start: usize, def: &DefSite) -> u64
-    requires { start < 2 ^ 63 }
-    ensures { IsMask marks.now start (λ m. (def.now.variable ≡ Some m.variable) × Contains def.now.names m.name × (m.strong ≡ true)) result }
-{
-    let mut word = 0;
-    for i in 0..64u32 {
-        word = with_bit(word, i, is_ended_at(marks, start + i as usize, def));
+        word = with_bit(word, i, is_strong_at(marks, start + i as usize));
     }
     word
 }
@@ -135,20 +96,27 @@ pub fn given(marks: &[Mark], start: usize, first: u16, action: Action, reached: 
     }
 }
 
+// The marks that the definition of that number ends.
+fn ended_by(tables: &Tables, sites: &Sites, d: u16) -> u64
+    ensures { (marks : List MarkOf) (start : ℕ) → AreTables marks start tables.now → IsMask marks start (λ m. EndsMark sites.now m (Define d)) result }
+{
+    if d == 0 {
+        return 0;
+    }
+    if d > sites.defs() {
+        return 0;
+    }
+    let word = ended(tables, sites.def(d));
+    word
+}
+
 /// The marks that a row stops.
-pub fn stopped(marks: &[Mark], start: usize, sites: &Sites, action: Action) -> u64
-    requires { start < 2 ^ 63 }
-    ensures { IsMask marks.now start (λ m. EndsMark sites.now m action) result }
+pub fn stopped(tables: &Tables, sites: &Sites, action: Action) -> u64
+    ensures { (marks : List MarkOf) (start : ℕ) → AreTables marks start tables.now → IsMask marks start (λ m. EndsMark sites.now m action) result }
 {
     match action {
-        Action::Define(d) => {
-            if d >= 1 && d <= sites.defs() {
-                marks_ended(marks, start, sites.def(d))
-            } else {
-                0
-            }
-        }
-        Action::Kill(variable) => marks_of_variable(marks, start, variable),
+        Action::Define(d) => ended_by(tables, sites, d),
+        Action::Kill(variable) => of_variable(tables, variable),
         _ => 0,
     }
 }

@@ -1,19 +1,22 @@
 //! Passes of marks over the rows of a function, 64 at a time.
 
-ghost use Rattle.std.specs.Prelude.{◌≡◌, ◌↔◌, ◌<◌, ◌≤◌, ◌+◌, ◌^◌, ℕ, true, length, IfOk, OnOk, Some, slice_get};
+ghost use Rattle.std.specs.Prelude.{◌≡◌, ◌↔◌, ◌<◌, ◌≤◌, ◌+◌, ◌*◌, ◌^◌, ℕ, true, length, IfOk, OnOk, Some, slice_get};
 ghost use Rattle.pair_list.specs.declared.marks.Mark.{Mark as MarkOf};
 ghost use Rattle.flow_marks.specs.Paths.{IsStep};
 ghost use Rattle.flow_marks.specs.Words.{HasBit};
-ghost use Rattle.pair_list.specs.Listed.{IsFound};
+ghost use Rattle.pair_list.specs.Found.{IsFound};
 ghost use Rattle.pair_list.specs.Marks.{IsMark};
 ghost use Rattle.pair_list.specs.Masks.{AreReached};
+ghost use Rattle.pair_list.specs.Tables.{AreTables, AreEmpty};
 ghost use Rattle.pair_list.specs.Hits.{FindsOne, FindsAny, AddsBits};
 
+use crate::filling::{clear_tables, empty_tables, fill_tables};
 use crate::hits::hit_rows;
 use crate::mark_lists::marks_of;
 use crate::marks::Mark;
 use crate::reached::zeros;
 use crate::rows::{all_given, all_stopped};
+use crate::tables::Tables;
 use c_base::place::NoMemory;
 use c_sites::numbered::Sites;
 use flow_marks::flow::FlowRow;
@@ -32,6 +35,7 @@ fn pass(
     marks: &[Mark],
     start: usize,
     first: u16,
+    tables: &Tables,
 ) -> Result<(), NoMemory>
     requires start { start < 2 ^ 63 }
     requires few { length flow.now < 2 ^ 32 }
@@ -39,13 +43,29 @@ fn pass(
     requires reached { AreReached flow.now reached.now }
     requires marks { (i : ℕ) (m : MarkOf) → slice_get marks.now i ≡ Some m → IsMark sites.now function m }
     requires within { (i : ℕ) (m : MarkOf) → slice_get marks.now i ≡ Some m → (first ≤ m.def) × (m.def < first + 64) }
+    requires tables { AreTables marks.now start tables.now }
     ensures { OnOk result (AddsBits (λ k j. FindsOne flow.now sites.now function marks.now start first (low + k) j) hits.old.items hits.new.items) }
 {
     let gives = all_given(alloc, flow, reached, marks, start, first)?;
-    let stops = all_stopped(alloc, flow, sites, marks, start)?;
+    let stops = all_stopped(alloc, flow, sites, tables)?;
     let came = arrivals(alloc, flow, &gives, &stops)?;
-    hit_rows(hits, low, &came, flow, sites, function, marks, start, first);
+    hit_rows(
+        hits, low, &came, flow, sites, function, marks, start, first, tables,
+    );
     Ok(())
+}
+
+// How often 64 marks are taken until all have been.
+fn turns_of(marks: usize) -> usize
+    ensures all { marks ≤ result * 64 }
+    ensures few { result * 64 < marks + 64 }
+{
+    let whole = marks / 64;
+    if whole * 64 == marks {
+        whole
+    } else {
+        whole + 1
+    }
 }
 
 // Those of all marks.
@@ -67,11 +87,14 @@ fn all_passes(
     requires within { (i : ℕ) (m : MarkOf) → slice_get marks.now i ≡ Some m → (first ≤ m.def) × (m.def < first + 64) }
     ensures { OnOk result (AddsBits (λ k j. FindsAny flow.now sites.now function marks.now (length marks.now) first (low + k) j) hits.old.items hits.new.items) }
 {
-    for turn in 0..marks.len() / 64 + 1 {
+    let mut tables = empty_tables(alloc, marks)?;
+    for turn in 0..turns_of(marks.len()) {
         let start = turn * 64;
+        fill_tables(&mut tables, marks, start);
         pass(
-            alloc, hits, low, flow, reached, sites, function, marks, start, first,
+            alloc, hits, low, flow, reached, sites, function, marks, start, first, &tables,
         )?;
+        clear_tables(&mut tables, marks, start);
     }
     Ok(())
 }

@@ -1,14 +1,16 @@
 //! The words of all rows.
 
-ghost use Rattle.std.specs.Prelude.{◌≡◌, ◌↔◌, ◌<◌, ◌≤◌, ◌+◌, ◌^◌, ◌++◌, ◌∷◌, ◌⊎◌, [], ℕ, true, length, IfOk, OnOk, Some, slice_get};
+ghost use Rattle.std.specs.Prelude.{◌≡◌, ◌↔◌, ◌<◌, ◌≤◌, ◌+◌, ◌^◌, ◌++◌, ◌∷◌, ◌⊎◌, [], ℕ, List, true, length, IfOk, OnOk, Some, slice_get};
 ghost use Rattle.std.proofs.Math.ListN.{get_or};
 ghost use Rattle.pair_list.specs.declared.marks.Mark.{Mark as MarkOf};
 ghost use Rattle.flow_marks.specs.Paths.{IsStep, IsReached};
 ghost use Rattle.flow_marks.specs.Words.{HasBit, Arrives};
 ghost use Rattle.pair_list.specs.Masks.{AreReached, AreGiven, AreStopped};
+ghost use Rattle.pair_list.specs.Tables.{AreTables};
 
 use crate::marks::Mark;
 use crate::masks::{given, stopped};
+use crate::tables::Tables;
 use c_base::place::NoMemory;
 use c_sites::numbered::Sites;
 use flow_marks::flow::FlowRow;
@@ -50,17 +52,15 @@ pub fn all_stopped(
     alloc: Global,
     flow: &[FlowRow],
     sites: &Sites,
-    marks: &[Mark],
-    start: usize,
+    tables: &Tables,
 ) -> Result<Vec<u64>, NoMemory>
-    requires { start < 2 ^ 63 }
     ensures size { IfOk result (λ words. length words.items ≡ length flow.now) }
-    ensures stopped { IfOk result (λ words. AreStopped flow.now sites.now marks.now start words.items) }
+    ensures stopped { IfOk result (λ words. (marks : List MarkOf) (start : ℕ) → AreTables marks start tables.now → AreStopped flow.now sites.now marks start words.items) }
 {
     let mut words = Vec::new(alloc);
     for row in 0..flow.len() {
         let action = flow[row].action;
-        push_word(&mut words, stopped(marks, start, sites, action))?;
+        push_word(&mut words, stopped(tables, sites, action))?;
     }
     Ok(words)
 }

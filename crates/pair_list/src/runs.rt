@@ -4,7 +4,8 @@ ghost use Rattle.std.specs.Prelude.{◌≡◌, ◌<◌, ◌≤◌, ◌+◌, ◌^
 ghost use Rattle.flow_marks.specs.Paths.{IsStep};
 ghost use Rattle.pair_list.specs.declared.pairs.ListRefusal.TheVariants.{TooManyPairs};
 ghost use Rattle.pair_list.specs.Masks.{AreReached};
-ghost use Rattle.pair_list.specs.PairLists.{items_in, pairs_from, Appends, HasMore, IsFoundPair, IsSpelledPair};
+ghost use Rattle.pair_list.specs.PairLists.{items_in, pairs_from, Appends, HasMore};
+ghost use Rattle.pair_list.specs.Found.{IsFoundPair, IsSpelledPair};
 
 use crate::pairs::{ListRefusal, Pair};
 use crate::passes::found;

@@ -27,13 +27,13 @@ bounds-flow-row c = c.loop-from.invariant.within c.in-Some.from (last_in c.loop-
 pub spread-requires : goal.spread-requires
 spread-requires c =
     let lt = c.loop-from.invariant.within c.in-Some.from (last_in c.loop-from.waiting.items c.take.new.waiting.items c.in-Some.from c.in-Some.ensures) in
-    in_next c.args.flow.now c.in-Some.from (length c.loop-from.held.items) c.numbers.result.now (c.numbers.ensures ∙ sym (next_at c.args.flow.now c.in-Some.from c.index-flow-row.result lt c.index-flow-row.is)) c.loop-from.invariant.size c.requires.in_range
+    in_next c.args.flow.now c.in-Some.from (length c.loop-from.held.items) c.deref.result.now (c.deref.ensures.value ∙ sym (next_at c.args.flow.now c.in-Some.from c.index-flow-row.result lt c.index-flow-row.is)) c.loop-from.invariant.size c.requires.in_range
 
 pub loop-from-smaller : goal.loop-from-smaller
 loop-from-smaller c =
     let lt = c.loop-from.invariant.within c.in-Some.from (last_in c.loop-from.waiting.items c.take.new.waiting.items c.in-Some.from c.in-Some.ensures) in
-    let next = c.numbers.ensures ∙ sym (next_at c.args.flow.now c.in-Some.from c.index-flow-row.result lt c.index-flow-row.is) in
-    let s = spread_at c.args.flow.now c.in-Some.from c.let_out-word.result c.numbers.result.now c.loop-from.held.items c.take.new.waiting.items c.spread.new.held.items c.spread.new.waiting.items next c.in_ok-spread.ensures in
+    let next = c.deref.ensures.value ∙ sym (next_at c.args.flow.now c.in-Some.from c.index-flow-row.result lt c.index-flow-row.is) in
+    let s = spread_at c.args.flow.now c.in-Some.from c.let_out-word.result c.deref.result.now c.loop-from.held.items c.take.new.waiting.items c.spread.new.held.items c.spread.new.waiting.items next c.in_ok-spread.ensures in
     let b : sum c.spread.new.held.items ≤ length c.args.flow.now * 2 ^ 64 = subst (λ n. sum c.spread.new.held.items ≤ n * 2 ^ 64) (s.size ∙ c.loop-from.invariant.size) (sum_bound c.spread.new.held.items (2 ^ 64) (s.fits c.loop-from.invariant.fits)) in
     let n = s.count in
     let l = turn_count c.loop-from.waiting.items c.take.new.waiting.items c.in-Some.from c.in-Some.ensures in
@@ -42,8 +42,8 @@ loop-from-smaller c =
 pub loop-from-preserved : goal.loop-from-preserved
 loop-from-preserved c =
     let lt = c.loop-from.invariant.within c.in-Some.from (last_in c.loop-from.waiting.items c.take.new.waiting.items c.in-Some.from c.in-Some.ensures) in
-    let next = c.numbers.ensures ∙ sym (next_at c.args.flow.now c.in-Some.from c.index-flow-row.result lt c.index-flow-row.is) in
-    let s = spread_at c.args.flow.now c.in-Some.from c.let_out-word.result c.numbers.result.now c.loop-from.held.items c.take.new.waiting.items c.spread.new.held.items c.spread.new.waiting.items next c.in_ok-spread.ensures in
+    let next = c.deref.ensures.value ∙ sym (next_at c.args.flow.now c.in-Some.from c.index-flow-row.result lt c.index-flow-row.is) in
+    let s = spread_at c.args.flow.now c.in-Some.from c.let_out-word.result c.deref.result.now c.loop-from.held.items c.take.new.waiting.items c.spread.new.held.items c.spread.new.waiting.items next c.in_ok-spread.ensures in
     let in_held : c.in-Some.from < length c.loop-from.held.items = (let e = c.loop-from.invariant.size in omega arith) in
     let lets = lets_at c.args.gives.now c.loop-from.held.items c.args.stops.now c.in-Some.from c.index.result.now c.let_out-word.result in_held c.index.ensures c.let_out-word.ensures in
     record {

@@ -1,4 +1,4 @@
-use Rattle.std.proofs.Common.{◌+◌, ◌≡◌, ◌<◌, ◌∙◌, length, sym, subst, arith}
+use Rattle.std.proofs.Common.{◌+◌, ◌≡◌, ◌∙◌, sym, arith}
 use Rattle.std.specs.Int.{bit_at}
 use Rattle.pair_list.specs.Hits.{RowHits}
 use Rattle.pair_list.proofs.Making.{not_some}

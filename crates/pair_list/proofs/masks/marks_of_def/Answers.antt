@@ -1,5 +1,4 @@
-use Rattle.std.proofs.Common.{◌≡◌, ◌+◌, Some, true, refl}
-use Rattle.std.specs.Prelude.{Contains}
+use Rattle.std.proofs.Common.{◌≡◌, ◌+◌, refl}
 use Rattle.pair_list.proofs.Masking.{mask_more}
 use Rattle.pair_list.proofs.masks.marks_of_def.Goals as goal
 

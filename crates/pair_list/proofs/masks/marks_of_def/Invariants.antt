@@ -1,5 +1,4 @@
-use Rattle.std.proofs.Common.{ℕ, ◌≡◌, ◌<◌, ◌+◌, ◌↔◌, Some, true}
-use Rattle.std.specs.Prelude.{Contains}
+use Rattle.std.proofs.Common.{ℕ, ◌≡◌, ◌<◌, ◌+◌, ◌↔◌}
 use Rattle.std.specs.Int.{bit_at}
 use Rattle.pair_list.specs.Masks.{MarkAt}
 use Rattle.pair_list.proofs.masks.marks_of_def.Given as goal

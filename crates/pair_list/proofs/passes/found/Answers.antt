@@ -1,4 +1,4 @@
-use Rattle.std.proofs.Common.{◌+◌, ◌<◌, ◌≤◌, subst, sym, arith}
+use Rattle.std.proofs.Common.{subst, sym, arith}
 use Rattle.pair_list.specs.Marks.{AreMarks}
 use Rattle.pair_list.proofs.Finding.{found_bits}
 use Rattle.pair_list.proofs.passes.found.Goals as goal

@@ -1,5 +1,6 @@
 use Rattle.std.proofs.Common.{◌≡◌, ◌≤◌, length}
-use Rattle.pair_list.specs.PairLists.{items_in, pairs_from, Appends, IsFoundPair}
+use Rattle.pair_list.specs.PairLists.{items_in, pairs_from, Appends}
+use Rattle.pair_list.specs.Found.{IsFoundPair}
 use Rattle.pair_list.proofs.runs.push_few.Given as goal
 
 abbrev pub invariant-loop-j : goal.invariant-loop-j

@@ -1,5 +1,5 @@
 use Rattle.std.proofs.Common.{◌+◌, ◌-◌, ◌≤◌, length, arith}
-use Rattle.pair_list.specs.PairLists.{IsFoundPair}
+use Rattle.pair_list.specs.Found.{IsFoundPair}
 use Rattle.pair_list.proofs.Running.{appends_both, more_later}
 use Rattle.pair_list.proofs.runs.push_run.Goals as goal
 

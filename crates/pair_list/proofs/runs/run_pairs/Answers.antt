@@ -1,5 +1,6 @@
 use Rattle.std.proofs.Common.{length}
-use Rattle.pair_list.specs.PairLists.{IsFoundPair, IsSpelledPair, pairs_from}
+use Rattle.pair_list.specs.PairLists.{pairs_from}
+use Rattle.pair_list.specs.Found.{IsFoundPair, IsSpelledPair}
 use Rattle.pair_list.proofs.Law.{found_spelled}
 use Rattle.pair_list.proofs.Running.{appends_same, more_same}
 use Rattle.pair_list.proofs.runs.run_pairs.Goals as goal

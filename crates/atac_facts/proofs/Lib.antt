@@ -1,0 +1,10 @@
+pub mod Rows
+pub mod Place
+pub mod Bits
+pub mod Counting
+pub mod Found
+pub mod Keys
+pub mod Least
+pub mod Next
+pub mod Sums
+pub mod Unions

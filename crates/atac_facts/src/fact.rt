@@ -1,0 +1,65 @@
+//! What a run shows.
+
+ghost use Rattle.std.specs.Prelude.{◌≡◌, ◌<◌, ◌≤◌, ◌+◌, ◌*◌, nat_lt, true};
+ghost use Rattle.atac_facts.specs.Facts.{key_of, place_of, rank, fits};
+
+/// What a run shows: a block entered, an outcome of a decision taken, a definition used,
+/// or a definition used for an outcome.
+#[derive(Clone, Copy, Debug, PartialEq, Eq)]
+pub enum Fact {
+    /// A block.
+    Block(u16),
+    /// A decision, and its outcome.
+    Outcome(u16, u32),
+    /// A definition, and a use of it.
+    Pair(u16, u16),
+    /// A definition, a use of it, and the outcome of the decision that the use belongs to.
+    PUse(u16, u16, u32),
+}
+
+impl Fact {
+    /// The number of the word that has this fact's bit: its kind, its numbers but the last, and the last divided by 64.
+    pub fn key(self) -> u64
+        ensures value { result ≡ key_of self }
+        ensures fits { fits self ≡ true }
+    {
+        match self {
+            Fact::Block(k) => k as u64 / 64,
+            Fact::Outcome(k, o) => (1 << 58) + (k as u64) * (1 << 26) + (o as u64) / 64,
+            Fact::Pair(d, u) => (2 << 58) + (d as u64) * (1 << 10) + (u as u64) / 64,
+            Fact::PUse(d, u, o) => {
+                (3 << 58) + (d as u64) * (1 << 42) + (u as u64) * (1 << 26) + (o as u64) / 64
+            }
+        }
+    }
+
+    /// The place of this fact's bit in its word.
+    pub fn place(self) -> u32
+        ensures value { result ≡ place_of self }
+        ensures small { result < 64 }
+    {
+        let last = match self {
+            Fact::Block(k) => k as u32,
+            Fact::Outcome(_, o) => o,
+            Fact::Pair(_, u) => u as u32,
+            Fact::PUse(_, _, o) => o,
+        };
+        last % 64
+    }
+
+    /// Its number in the order of all facts.
+    pub fn rank(self) -> u128
+        ensures { result ≡ rank self }
+    {
+        self.key() as u128 * 64 + self.place() as u128
+    }
+
+    /// Whether it stands before another fact, by kind and then by the numbers in order.
+    pub fn is_before(self, other: Fact) -> bool
+        ensures { result ≡ nat_lt (rank self) (rank other) }
+    {
+        let key = self.key();
+        let other_key = other.key();
+        key < other_key || key == other_key && self.place() < other.place()
+    }
+}

@@ -1,0 +1,78 @@
+//! Trace files by hand: cut at each length, with each byte's lowest bit turned, and one of version 1 written as version 2.
+
+use atac_facts::fact::Fact;
+use sha2::{Digest, Sha256};
+use std::alloc::Global;
+use std::test::*;
+use trace_file::{DecodeRefusal, EncodeRefusal, decode, encode};
+
+// A trace of version 1 with two runs, which met block 1: 92 bytes.
+fn old_trace() -> [u8; 92] {
+    let mut bytes = [0u8; 92];
+    bytes[0] = 65;
+    bytes[1] = 84;
+    bytes[2] = 65;
+    bytes[3] = 67;
+    bytes[5] = 1;
+    bytes[6] = 200;
+    bytes[37] = 9;
+    bytes[41] = 2;
+    bytes[45] = 1;
+    bytes[47] = 1;
+    let digest = Sha256::digest(&bytes[..60]);
+    bytes[60..].copy_from_slice(&digest);
+    bytes
+}
+
+fn number(alloc: Global, bytes: &[u8]) -> u32 {
+    match decode(alloc, bytes) {
+        Ok(_) => 0,
+        Err(DecodeRefusal::NotATrace) => 60,
+        Err(DecodeRefusal::Version) => 61,
+        Err(DecodeRefusal::Length) => 62,
+        Err(DecodeRefusal::Order) => 63,
+        Err(DecodeRefusal::Damaged) => 64,
+        Err(DecodeRefusal::NoMemory) => 10,
+    }
+}
+
+#[test]
+fn cut_short(rt: HostRuntime) {
+    let bytes = old_trace();
+    assert_eq!(rt; number(rt.alloc(), &bytes), 0);
+    for n in 0..92usize {
+        let wanted = if n < 4 { 60 } else { 62 };
+        assert_eq!(rt; number(rt.alloc(), &bytes[..n]), wanted);
+    }
+}
+
+#[test]
+fn one_bit_changed(rt: HostRuntime) {
+    for n in 0..92usize {
+        let mut bytes = old_trace();
+        bytes[n] ^= 1;
+        let wanted = match n {
+            0..=3 => 60,
+            4 | 5 => 61,
+            42..=45 | 48..=59 => 62,
+            47 => 63,
+            _ => 64,
+        };
+        assert_eq!(rt; number(rt.alloc(), &bytes), wanted);
+    }
+}
+
+#[test]
+fn old_becomes_new(rt: HostRuntime) -> Result<(), Fail> {
+    let trace = decode(rt.alloc(), &old_trace()).ok().ok_or("read")?;
+    assert_eq!(rt; trace.runs, 2);
+    assert_eq!(rt; trace.old_runs, 2);
+    assert_eq!(rt; trace.tally.count(Fact::Block(1)), 1);
+    assert!(rt; matches!(encode(rt.alloc(), &trace, 99), Err(EncodeRefusal::TooMuch)));
+    let bytes = encode(rt.alloc(), &trace, 100).ok().ok_or("written")?;
+    assert_eq!(rt; bytes.len(), 100);
+    let again = decode(rt.alloc(), &bytes).ok().ok_or("read again")?;
+    assert_eq!(rt; again.old_runs, 2);
+    assert_eq!(rt; again.tally.rows().len(), 1);
+    Ok(())
+}

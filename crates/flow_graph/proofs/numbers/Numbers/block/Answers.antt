@@ -1,6 +1,0 @@
-use Rattle.std.proofs.Common.{ℕ, ap}
-use Rattle.flow_graph.proofs.Counting.{block_counted}
-use Rattle.flow_graph.proofs.numbers.Numbers.block.Goals as goal
-
-pub returns : goal.returns
-returns c = block_counted c.args.self.now _ (ap (λ (x : ℕ). record c.args.self.now { blocks = x }) c.in_ok-blocks.ensures)

@@ -1,4 +1,0 @@
-use Rattle.flow_graph.proofs.numbers.Numbers.block_if.Goals as goal
-
-pub returns-then-block : goal.returns-then-block
-returns-then-block c = rw c.if-block.true c.block.ensures

@@ -1,6 +1,0 @@
-use Rattle.std.proofs.Common.{ℕ, ap}
-use Rattle.flow_graph.proofs.Counting.{def_counted}
-use Rattle.flow_graph.proofs.numbers.Numbers.def.Goals as goal
-
-pub returns : goal.returns
-returns c = def_counted c.args.self.now _ (ap (λ (x : ℕ). record c.args.self.now { defs = x }) c.in_ok-defs.ensures)

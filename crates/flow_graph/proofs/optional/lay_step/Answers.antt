@@ -1,8 +1,0 @@
-use Rattle.flow_graph.proofs.optional.lay_step.Goals as goal
-
-pub returns-in_ok-fill-in-None : goal.returns-in_ok-fill-in-None
-returns-in_ok-fill-in-None c =
-    rw c.in-None.is (record { grown = c.in_ok-fill-in-None.ensures.grown; laid = λ around w e. c.in_ok-fill-in-None.ensures.laid; counted = λ around w e. e })
-
-pub returns-in_ok-lay_arm-in-Some : goal.returns-in_ok-lay_arm-in-Some
-returns-in_ok-lay_arm-in-Some c = rw c.in-Some.is c.in_ok-lay_arm-in-Some.ensures

@@ -1,6 +1,0 @@
-use Rattle.std.proofs.Common.{rules}
-use Rattle.std.proofs.lemmas.List.{map-set}
-use Rattle.flow_graph.proofs.rows.Rows.set.Goals as goal
-
-pub returns-clause-row : goal.returns-clause-row
-returns-clause-row c = search (rules, map-set)

@@ -1,0 +1,17 @@
+pub mod Counting
+pub mod Paths
+pub mod Laws
+pub mod Growth
+pub mod Ends
+pub mod Sited
+pub mod Arms
+pub mod Joins
+pub mod Runs
+pub mod Declared
+pub mod Stated
+pub mod Listed
+pub mod Switched
+pub mod Chosen
+pub mod Labels
+pub mod Choices
+pub mod Choosing

@@ -1,0 +1,199 @@
+//! The numbers of blocks, decisions, definitions, uses and variables.
+
+ghost use Rattle.std.specs.Prelude.{◌≡◌, ◌+◌, Option, true, false, if◌then◌else◌, IfOk, OnOk};
+ghost use Rattle.c_base.specs.declared.place.Pos.{Pos};
+ghost use Rattle.c_syntax.specs.View.{note_shape, expr_shape};
+ghost use Rattle.c_walk.specs.Items.{Outcomes, Direct};
+ghost use Rattle.c_walk.specs.Units.{no_items};
+ghost use Rattle.c_walk.specs.Places.{has_scalar};
+ghost use Rattle.c_walk.specs.Walked.{Walked, next_decision, is_read, is_written, with_block, with_block_if, with_decision, with_test, with_def, with_use, with_site};
+ghost use Rattle.c_walk.specs.Counted.{next_block, next_def, next_use};
+ghost use Rattle.c_walk.specs.Stating.{with_variable};
+ghost use Rattle.flow_rows.specs.Counts.{counts, Counted};
+
+use c_base::place::NoMemory;
+use c_syntax::tree::Node;
+use c_walk::around::Taken;
+use c_walk::places::{has_scalar, is_place};
+use c_walk::tests::is_logical;
+
+/// How many blocks, decisions, definitions and uses have their numbers, and how many variables.
+#[derive(Clone, Copy, Debug, PartialEq, Eq)]
+pub struct Numbers {
+    pub blocks: u16,
+    pub decisions: u16,
+    pub defs: u16,
+    pub uses: u16,
+    pub variables: u32,
+}
+
+impl Numbers {
+    /// Nothing is numbered yet.
+    pub fn none() -> Numbers
+        ensures { result ≡ counts no_items }
+    {
+        Numbers {
+            blocks: 0,
+            decisions: 0,
+            defs: 0,
+            uses: 0,
+            variables: 0,
+        }
+    }
+
+    /// A block is numbered.
+    pub fn block(&mut self) -> Result<(), NoMemory>
+        ensures { OnOk result ((p : Pos) → Counted self.old self.new (λ c w. with_block p w)) }
+    {
+        let blocks = next(self.blocks)?;
+        self.blocks = blocks;
+        Ok(())
+    }
+
+    /// A block is numbered, if it is one.
+    pub fn block_if(&mut self, block: bool) -> Result<(), NoMemory>
+        ensures { OnOk result ((p : Pos) → Counted self.old self.new (λ c w. with_block_if block p w)) }
+    {
+        if block { self.block() } else { Ok(()) }
+    }
+
+    /// A decision is numbered.
+    pub fn decision(&mut self) -> Result<(), NoMemory>
+        ensures { OnOk result ((p : Pos) (o : Outcomes) → Counted self.old self.new (λ c w. with_decision p o w)) }
+    {
+        let decisions = next(self.decisions)?;
+        self.decisions = decisions;
+        Ok(())
+    }
+
+    /// A definition is numbered.
+    pub fn def(&mut self) -> Result<(), NoMemory>
+        ensures { OnOk result ((p : Pos) (d : Option Direct) → Counted self.old self.new (λ c w. with_def true c p d w)) }
+    {
+        let defs = next(self.defs)?;
+        self.defs = defs;
+        Ok(())
+    }
+
+    /// A use is numbered.
+    pub fn used(&mut self) -> Result<(), NoMemory>
+        ensures { OnOk result ((p : Pos) (d : Option Direct) → Counted self.old self.new (λ c w. with_use true c p d w)) }
+    {
+        let uses = next(self.uses)?;
+        self.uses = uses;
+        Ok(())
+    }
+
+    /// A variable is numbered.
+    pub fn variable(&mut self) -> Result<(), NoMemory>
+        ensures { OnOk result (Counted self.old self.new (λ c w. with_variable w)) }
+    {
+        let variables = next_variable(self.variables)?;
+        self.variables = variables;
+        Ok(())
+    }
+
+    fn def_if(&mut self, written: bool) -> Result<(), NoMemory>
+        ensures { OnOk result ((p : Pos) (d : Option Direct) → Counted self.old self.new (λ c w. with_def written c p d w)) }
+    {
+        if written { self.def() } else { Ok(()) }
+    }
+
+    fn use_if(&mut self, read: bool) -> Result<(), NoMemory>
+        ensures { OnOk result ((p : Pos) (d : Option Direct) → Counted self.old self.new (λ c w. with_use read c p d w)) }
+    {
+        if read { self.used() } else { Ok(()) }
+    }
+
+    /// The sites of an expression by itself, of whose value that is done, are numbered.
+    pub fn site(&mut self, taken: Taken, node: &Node) -> Result<(), NoMemory>
+        ensures { OnOk result (Counted self.old self.new (λ c w. with_site c taken node.now.pos (note_shape node.now.note) (expr_shape node.now.form) w)) }
+    {
+        if is_place(&node.form) {
+            self.def_if(is_written(taken))?;
+            self.use_if(is_used(taken, node))
+        } else {
+            Ok(())
+        }
+    }
+
+    /// An expression at a test position is numbered, if it is a decision.
+    pub fn test(&mut self, node: &Node) -> Result<(), NoMemory>
+        ensures { OnOk result (Counted self.old self.new (λ c w. with_test node.now.pos (expr_shape node.now.form) w)) }
+    {
+        if is_logical(node) {
+            Ok(())
+        } else {
+            self.decision()
+        }
+    }
+
+    /// The number of the next block.
+    pub fn next_block(&self) -> Result<u16, NoMemory>
+        ensures { IfOk result (λ n. (w : Walked) → counts w ≡ self.now → n ≡ next_block w) }
+    {
+        let number = next(self.blocks)?;
+        Ok(number)
+    }
+
+    /// The number of the next decision.
+    pub fn next_decision(&self) -> Result<u16, NoMemory>
+        ensures { IfOk result (λ n. (w : Walked) → counts w ≡ self.now → n ≡ next_decision w) }
+    {
+        let number = next(self.decisions)?;
+        Ok(number)
+    }
+
+    /// The number of the next definition.
+    pub fn next_def(&self) -> Result<u16, NoMemory>
+        ensures { IfOk result (λ n. (w : Walked) → counts w ≡ self.now → n ≡ next_def w) }
+    {
+        let number = next(self.defs)?;
+        Ok(number)
+    }
+
+    /// The number of the next use.
+    pub fn next_use(&self) -> Result<u16, NoMemory>
+        ensures { IfOk result (λ n. (w : Walked) → counts w ≡ self.now → n ≡ next_use w) }
+    {
+        let number = next(self.uses)?;
+        Ok(number)
+    }
+}
+
+fn next(number: u16) -> Result<u16, NoMemory>
+    ensures { IfOk result (λ n. n ≡ number + 1) }
+{
+    match number.checked_add(1) {
+        Some(number) => Ok(number),
+        None => Err(NoMemory),
+    }
+}
+
+fn next_variable(number: u32) -> Result<u32, NoMemory>
+    ensures { IfOk result (λ n. n ≡ number + 1) }
+{
+    match number.checked_add(1) {
+        Some(number) => Ok(number),
+        None => Err(NoMemory),
+    }
+}
+
+fn is_written(taken: Taken) -> bool
+    ensures { result ≡ is_written taken }
+{
+    matches!(taken, Taken::Written | Taken::Changed)
+}
+
+fn is_read(taken: Taken) -> bool
+    ensures { result ≡ is_read taken }
+{
+    matches!(taken, Taken::Read | Taken::Changed)
+}
+
+// Whether a place counts as a use: it is a scalar, and read.
+fn is_used(taken: Taken, node: &Node) -> bool
+    ensures { result ≡ (if is_read taken then has_scalar (note_shape node.now.note) else false) }
+{
+    is_read(taken) && has_scalar(&node.note)
+}

@@ -1,7 +1,0 @@
-use Rattle.std.proofs.Common.{◌≡◌, ◌+◌, Some, true, refl}
-use Rattle.std.specs.Prelude.{Contains}
-use Rattle.pair_list.proofs.Masking.{mask_more}
-use Rattle.pair_list.proofs.masks.marks_of_variable.Goals as goal
-
-pub loop-i-preserved : goal.loop-i-preserved
-loop-i-preserved c = mask_more c.args.marks.now c.args.start (λ m. c.args.variable ≡ m.variable) c.loop-i.i (c.args.start + c.loop-i.i) c.loop-i.word c.with_bit-word.result c.is_of_variable.result refl c.loop-i.invariant c.is_of_variable.ensures c.with_bit-word.ensures

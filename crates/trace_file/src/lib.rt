@@ -1,0 +1,13 @@
+//! The trace file: a program's digest, how many runs there were, and how many of them met each fact.
+#![tactic(auto)]
+
+mod kind;
+mod reading;
+mod refusal;
+mod trace;
+mod writing;
+
+pub use reading::decode;
+pub use refusal::{DecodeRefusal, EncodeRefusal};
+pub use trace::Trace;
+pub use writing::encode;
