@@ -1,4 +1,4 @@
 pub mod Outside
 pub mod Items
-pub mod Facts
+pub mod Telling
 pub mod Memory

@@ -6,6 +6,8 @@ mod arithmetic;
 #[cfg(test)]
 mod calls;
 #[cfg(test)]
+mod collector;
+#[cfg(test)]
 mod events;
 #[cfg(test)]
 mod lexer;

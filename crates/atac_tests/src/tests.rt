@@ -1,6 +1,6 @@
 //! Calls whose fetches and puts fail.
 
-use crate::calls::{Fails, NONE, check, cover};
+use crate::calls::{Fails, NONE, call, check, cover};
 use atac_top::status::Status;
 use std::test::Fail;
 
@@ -43,5 +43,56 @@ fn failing_outside(rt: HostRuntime) -> Result<(), Fail> {
     let left = check(alloc, LOOP, Fails { put: 1, ..NONE })?;
     assert_eq!(rt; left.status, Status::WriteFault);
     assert!(rt; left.out.bytes().is_empty());
+    Ok(())
+}
+
+const CHARACTER: &[u8] = b"int main(void){int c=getchar();if(c==97)putchar(c);return 0;}";
+
+const CHARACTER_SECTION: &[u8] = b"== e\na\n== returned 0 turns 12 bytes 1\n";
+
+/// Where an input of several can't be read, or a section can't be put, the sections before it stand, and no report.
+#[test]
+fn failing_between_inputs(rt: HostRuntime) -> Result<(), Fail> {
+    let alloc = rt.alloc();
+    let words = ["cover", "p", "e", "e"].as_slice();
+    let left = call(alloc, words, CHARACTER, b"a", Fails { fetch: 3, ..NONE })?;
+    assert_eq!(rt; left.status, Status::ReadFault);
+    assert!(rt; left.out.bytes() == CHARACTER_SECTION);
+    assert!(rt; left.err.bytes() == b"atac: e: read fault\n".as_slice());
+    let left = call(alloc, words, CHARACTER, b"a", Fails { put: 2, ..NONE })?;
+    assert_eq!(rt; left.status, Status::WriteFault);
+    assert!(rt; left.out.bytes() == CHARACTER_SECTION);
+    let left = call(alloc, words, CHARACTER, b"a", Fails { put: 3, ..NONE })?;
+    assert_eq!(rt; left.status, Status::WriteFault);
+    assert_eq!(rt; left.out.bytes().len(), 2 * CHARACTER_SECTION.len());
+    let left = call(
+        alloc,
+        ["cover", "p", "e", "q"].as_slice(),
+        CHARACTER,
+        b"a",
+        NONE,
+    )?;
+    assert_eq!(rt; left.status, Status::Absent);
+    assert!(rt; left.out.bytes() == CHARACTER_SECTION);
+    assert!(rt; left.err.bytes() == b"atac: q: absent\n".as_slice());
+    Ok(())
+}
+
+/// A cover takes 1,000 inputs, and no more.
+#[test]
+fn thousand_inputs(rt: HostRuntime) -> Result<(), Fail> {
+    let alloc = rt.alloc();
+    let mut words = Vec::new(alloc);
+    words.push("cover")?;
+    words.push("p")?;
+    for _ in 0..1_000 {
+        words.push("e")?;
+    }
+    let left = call(alloc, words.as_slice(), CHARACTER, b"a", NONE)?;
+    assert_eq!(rt; left.status, Status::Done);
+    assert!(rt; left.out.bytes().len() > 1_000 * CHARACTER_SECTION.len());
+    words.push("e")?;
+    let left = call(alloc, words.as_slice(), CHARACTER, b"a", NONE)?;
+    assert_eq!(rt; left.status, Status::Usage);
     Ok(())
 }

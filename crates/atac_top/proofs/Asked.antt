@@ -1,10 +1,11 @@
 -- The answers of the commands, as far as their steps have come.
 use Rattle.std.proofs.Common.{◌≡◌, ap, ◌∙◌, append-nil, List, [], ◌∷◌, ◌++◌, ℕ, Option, None, Some}
 use Rattle.c_meaning.specs.Calls.{Source}
+use Rattle.atac_base.specs.Items.{ItemLists}
 use Rattle.atac_top.specs.Words.{Command, Check, ListItems, Cover, Run}
 use Rattle.atac_top.specs.Ends.{End, IsDone, NotAccepted}
-use Rattle.atac_top.specs.Programs.{Counts, Reading, Refuses, Counted, Listed, Runs, Covers, IsUnderstood, counts_text, section, report}
-use Rattle.atac_top.specs.Answers.{Answer, asked, names, text, refused, gets, Got, Gets, Stops, input_most}
+use Rattle.atac_top.specs.Programs.{Counts, Reading, Refuses, Counted, Listed, Runs, Covers, IsUnderstood, counts_text, section}
+use Rattle.atac_top.specs.Answers.{Answer, asked, names, text, refused, covering, gets, Got, Gets, Stops, input_most}
 use Rattle.atac_top.specs.Runs.{IsOfGot, Understands}
 
 -- what stops at its program is not understood
@@ -14,28 +15,20 @@ stopped_got command (Gets source) e h = absurd (let k : Gets source ≡ Stops e 
 
 -- ---- the answer of `cover`
 
-module _ (n : ℕ) (p i : List ℕ) (fp fi : Option (List ℕ)) where
+module _ (n : ℕ) (p : List ℕ) (is : List (List ℕ)) (fp : Option (List ℕ)) (fs : List (Option (List ℕ))) where
   pub cover_stopped_first : (e : End) → gets p 1048576 fp ≡ Stops e
-      → Understands (Some (Cover n p i)) (fp ∷ fi ∷ []) (Refuses []) × (asked (Some (Cover n p i)) (Refuses []) (fp ∷ fi ∷ []) ≡ refused [] e)
-  cover_stopped_first e h = (stopped_got (Cover n p i) (gets p 1048576 fp) e h, rw h)
+      → Understands (Some (Cover n p is)) (fp ∷ fs) (Refuses []) × (asked (Some (Cover n p is)) (Refuses []) (fp ∷ fs) ≡ refused [] e)
+  cover_stopped_first e h = (stopped_got (Cover n p is) (gets p 1048576 fp) e h, rw h)
 
   module _ (s : List ℕ) (h : gets p 1048576 fp ≡ Gets s) where
-    pub cover_understands : (u : Reading) → IsUnderstood (Cover n p i) s u → Understands (Some (Cover n p i)) (fp ∷ fi ∷ []) u
+    pub cover_understands : (u : Reading) → IsUnderstood (Cover n p is) s u → Understands (Some (Cover n p is)) (fp ∷ fs) u
     cover_understands u is = rw h is
 
-    pub cover_refused : (said : List ℕ) → asked (Some (Cover n p i)) (Refuses said) (fp ∷ fi ∷ []) ≡ refused [] (NotAccepted p said)
+    pub cover_refused : (said : List ℕ) → asked (Some (Cover n p is)) (Refuses said) (fp ∷ fs) ≡ refused [] (NotAccepted p said)
     cover_refused said = rw h
 
-    module _ (P : Source) where
-      pub cover_stopped : (e : End) → gets i input_most fi ≡ Stops e → asked (Some (Cover n p i)) (Covers P) (fp ∷ fi ∷ []) ≡ refused [] e
-      cover_stopped e l = rw (h, l)
-
-      pub cover_done : (b : List ℕ) → gets i input_most fi ≡ Gets b
-          → asked (Some (Cover n p i)) (Covers P) (fp ∷ fi ∷ []) ≡ record { end = IsDone; sections = section i P b n ∷ []; rest = report P b n; kept = None }
-      cover_done b l = rw (h, l)
-
-      pub cover_text : (b : List ℕ) → gets i input_most fi ≡ Gets b → text (asked (Some (Cover n p i)) (Covers P) (fp ∷ fi ∷ [])) ≡ section i P b n ++ report P b n
-      cover_text b l = ap (λ (a : Answer). text a) (cover_done b l) ∙ ap (λ xs. xs ++ report P b n) (append-nil (section i P b n))
+    pub cover_goes : (P : Source) (items : ItemLists) → asked (Some (Cover n p is)) (Covers P items) (fp ∷ fs) ≡ covering P items n is fs [] []
+    cover_goes P items = rw h
 
 -- ---- the answer of `run`
 
@@ -56,11 +49,11 @@ module _ (n : ℕ) (p i : List ℕ) (fp fi : Option (List ℕ)) where
       run_stopped e l = rw (h, l)
 
       pub run_done : (b : List ℕ) → gets i input_most fi ≡ Gets b
-          → asked (Some (Run n p i)) (Runs P) (fp ∷ fi ∷ []) ≡ record { end = IsDone; sections = section i P b n ∷ []; rest = []; kept = None }
+          → asked (Some (Run n p i)) (Runs P) (fp ∷ fi ∷ []) ≡ record { end = IsDone; sections = []; rest = section i P b n; kept = None }
       run_done b l = rw (h, l)
 
       pub run_text : (b : List ℕ) → gets i input_most fi ≡ Gets b → text (asked (Some (Run n p i)) (Runs P) (fp ∷ fi ∷ [])) ≡ section i P b n
-      run_text b l = ap (λ (a : Answer). text a) (run_done b l) ∙ append-nil (section i P b n ++ []) ∙ append-nil (section i P b n)
+      run_text b l = ap (λ (a : Answer). text a) (run_done b l)
 
 -- ---- the answer of `check`
 

@@ -1,8 +1,10 @@
 pub mod Asked
 pub mod Claims
+pub mod Course
 pub mod Exits
 pub mod Found
 pub mod Growing
+pub mod Inputs
 pub mod Limits
 pub mod Lines
 pub mod Reading

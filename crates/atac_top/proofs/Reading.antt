@@ -1,6 +1,13 @@
 -- What was understood of a text, by what the code answered.
-use Rattle.std.proofs.Common.{◌≡◌, sym, ◌∙◌, subst, List, [], ℕ, Option, None, Some}
-use Rattle.std.specs.Prelude.{string_bytes}
+use Rattle.std.proofs.Common.{◌≡◌, refl, ap, sym, ◌∙◌, subst, List, [], ◌∷◌, ℕ, zero, suc, ◌<◌, ◌≤◌, length, Bool, true, false, nat_lt, Option, None, Some, arith, slice_get}
+use Rattle.std.proofs.lemmas.Bool.Decides.{nat_tests}
+use Rattle.std.specs.Prelude.{string_bytes, unwrap_or}
+use Rattle.c_events.specs.Owners.{owner_in}
+use Rattle.c_sites_probes.specs.Owned.{owner_of}
+use Rattle.c_sites_probes.specs.Owners.{AreOwners}
+use Rattle.c_sites.specs.Refused.{refusal}
+use Rattle.probe_laws.specs.Owners.{owner_in_program}
+use Rattle.probe_laws.proofs.Owners.{program_owns_few}
 use Rattle.c_base.specs.declared.place.Pos.{Pos}
 use Rattle.c_lex.specs.declared.lexer.TextKind.{TextKind}
 use Rattle.c_syntax.specs.View.{unit_shape}
@@ -8,12 +15,13 @@ use Rattle.c_tables.specs.Tables.{tables_shape}
 use Rattle.c_walk.specs.Units.{items_of}
 use Rattle.atac_base.specs.Items.{ItemLists}
 use Rattle.pair_list.specs.Items.{AreItems, AreTooMany}
-use Rattle.cover_report.specs.ItemTexts.{list_text}
 use Rattle.c_meaning.specs.Calls.{Source}
 use Rattle.c_meaning.specs.Sources.{source_of}
 use Rattle.c_front.specs.declared.front.FrontRefusal.{FrontRefusal}
 use Rattle.c_front.specs.declared.front.FrontRefusal.TheVariants.{At}
 use Rattle.c_front.specs.Front as front
+use Rattle.atac_top.specs.declared.listing.Itemising.{Itemising}
+use Rattle.atac_top.specs.declared.listing.Itemising.TheVariants as itemisings
 use Rattle.atac_top.specs.declared.listing.Listing.{Listing}
 use Rattle.atac_top.specs.declared.listing.Listing.TheVariants as listings
 use Rattle.atac_top.specs.declared.program.Understood.{Understood}
@@ -21,8 +29,8 @@ use Rattle.atac_top.specs.declared.program.Runnable.{Runnable}
 use Rattle.atac_top.specs.declared.program.Runnable.TheVariants as runnables
 use Rattle.atac_top.specs.declared.program.Reading.{Reading}
 use Rattle.atac_top.specs.declared.program.Reading.TheVariants as reading
-use Rattle.atac_top.specs.Programs.{Rejection, Unlisted, too_many, IsListing, Unread, IsProbed, refusal_text}
-use Rattle.atac_top.specs.Understanding.{HasSites, CheckedAs, ListedAs, CoveredAs, ReadAs, RunAs}
+use Rattle.atac_top.specs.Programs.{Rejection, Unlisted, too_many, HasItems, IsListing, Unread, IsProbed, refusal_text}
+use Rattle.atac_top.specs.Understanding.{HasSites, CheckedAs, IsItemised, ItemisedAs, ListedAs, CoveredAs, ReadAs, RunAs}
 use Rattle.atac_top.specs.declared.checking.Checking.{Checking}
 use Rattle.atac_top.specs.declared.checking.Checking.TheVariants as checking
 use Rattle.c_sites.specs.declared.numbered.Sites.{Sites}
@@ -31,11 +39,17 @@ use Rattle.c_sites.specs.declared.all_sites.SiteRefusal.TheVariants as site
 use Rattle.c_sites.specs.Refused as sites
 use Rattle.c_tree.specs.declared.program.Program.{Program}
 
-pub read_refused : (r : Reading) (said : _) (s t : List ℕ) → r ≡ reading.Refuses said → s ≡ t → ReadAs s r → Rejection t (string_bytes said)
+pub read_refused : (r : Reading) (said : _) (s t : List ℕ) → r ≡ reading.Refuses said → s ≡ t → ReadAs s r → Unlisted t (string_bytes said)
 read_refused r said s t e same h = subst (λ (x : List ℕ). ReadAs x (reading.Refuses said)) same (subst (ReadAs s) e h)
 
 pub read_given : (r : Reading) (u : Understood) (s t : List ℕ) → r ≡ reading.Covers u → s ≡ t → ReadAs s r → CoveredAs t u
 read_given r u s t e same h = subst (λ (x : List ℕ). ReadAs x (reading.Covers u)) same (subst (ReadAs s) e h)
+
+pub itemise_refused : (r : Itemising) (said : _) (s t : List ℕ) → r ≡ itemisings.Refuses said → s ≡ t → ItemisedAs s r → Unlisted t (string_bytes said)
+itemise_refused r said s t e same h = subst (λ (x : List ℕ). ItemisedAs x (itemisings.Refuses said)) same (subst (ItemisedAs s) e h)
+
+pub itemise_given : (r : Itemising) (p : Program) (found : Sites) (items : ItemLists) (s t : List ℕ) → r ≡ itemisings.Has p found items → s ≡ t → ItemisedAs s r → IsItemised t p found items
+itemise_given r p found items s t e same h = subst (λ (x : List ℕ). ItemisedAs x (itemisings.Has p found items)) same (subst (ItemisedAs s) e h)
 
 pub unread : (r : Runnable) (said : _) (s t : List ℕ) → r ≡ runnables.Refuses said → s ≡ t → RunAs s r → Unread t (string_bytes said)
 unread r said s t e same h = subst (λ (x : List ℕ). RunAs x (runnables.Refuses said)) same (subst (RunAs s) e h)
@@ -63,15 +77,12 @@ sites_refused P e n p is h = subst (sites.IsRefused P) is h
 pub refused_at : (kind : TextKind) (source : List ℕ) (e : FrontRefusal) (n : ℕ) (p : Pos) → e ≡ At n p → front.IsRefused kind source e → front.IsRead kind source (front.refused n p)
 refused_at kind source e n p is h = subst (front.IsRefused kind source) is h
 
--- the list of a program that is accepted, and of its sites
-pub listing_of : (source text : List ℕ) (p : Program) (s : Sites) (h : HasSites source p s) (items : ItemLists) → AreItems (tables_shape p.tables) (unit_shape p.unit) s items → text ≡ list_text items → IsListing source text
-listing_of source text p s h items are is = record {
-  accepted = h.accepted;
+-- the items of a program that is accepted, by its sites
+pub has_items : (source : List ℕ) (p : Program) (s : Sites) (h : HasSites source p s) (items : ItemLists) → AreItems (tables_shape p.tables) (unit_shape p.unit) s items → HasItems h.accepted items
+has_items source p s h items are = record {
   sites = s;
   numbered = subst (λ (P : Source). sites.AreNumbered P.tables.structures (items_of P.tables P.unit) s) h.program h.sites.numbered;
-  items = items;
   are = subst (λ (P : Source). AreItems P.tables P.unit s items) h.program are;
-  text_is = is;
 }
 
 -- and its pairs are too many
@@ -79,3 +90,18 @@ pub unlisted_of : (source said : List ℕ) (p : Program) (s : Sites) (h : HasSit
 unlisted_of source said p s h more is =
     too_many h.accepted s (subst (λ (P : Source). sites.AreNumbered P.tables.structures (items_of P.tables P.unit) s) h.program h.sites.numbered)
     (subst (λ (P : Source). AreTooMany P.tables P.unit s) h.program more) is
+
+-- behind the end of a list there is none
+none_past : (xs : List (Option ℕ)) (k : ℕ) → length xs ≤ k → slice_get xs k ≡ None
+none_past [] k h = refl
+none_past (x ∷ xs) zero h = absurd (omega arith)
+none_past (x ∷ xs) (suc k) h = none_past xs k (omega arith)
+
+-- the rows of a program with its probes have the owners of its uses
+pub owned_by : (P : Source) (rows : List (Option ℕ)) (found : List (ℕ × ℕ)) → refusal P.tables P.unit ≡ None → length rows ≡ 65536 → AreOwners found rows → ((u : ℕ) → owner_of u found ≡ owner_in_program P u)
+    → (u : ℕ) → owner_in rows u ≡ owner_in_program P u
+owned_by P rows found taken whole are same u = by (nat_lt u 65536) refl
+  where
+    by : (b : Bool) → nat_lt u 65536 ≡ b → owner_in rows u ≡ owner_in_program P u
+    by true h = let few : u < 65536 = grind (arith, nat_tests) in ap (λ o. unwrap_or o None) (are u few) ∙ same u
+    by false h = let many : 65536 ≤ u = grind (arith, nat_tests) in ap (λ o. unwrap_or o None) (none_past rows u (omega (arith, whole, many))) ∙ sym (program_owns_few P taken u (omega (arith, many)))

@@ -1,45 +1,71 @@
--- The run of the program with its probes, as the program's own.
-use Rattle.std.proofs.Common.{◌≡◌, sym, ap, ◌∙◌, List, [], ◌∷◌, ◌++◌, ◌+◌, ℕ, zero, suc, Bool, Some, slice_get, take, add-one}
-use Rattle.c_base.specs.declared.place.Pos.{Pos}
+-- The run of the program with its probes, as the program's own, and what it covers.
+use Rattle.std.proofs.Common.{◌≡◌, sym, ap, ◌∙◌, refl, List, [], ◌∷◌, ◌++◌, ℕ, Option, Bool, true, false}
+use Rattle.std.specs.Prelude.{◌↔◌, ◌||◌, IsTrue}
 use Rattle.c_events.specs.declared.events.Event.{Event}
+use Rattle.c_events.specs.Owners.{owner_in}
+use Rattle.atac_facts.specs.declared.fact.Fact.{Fact}
+use Rattle.atac_facts.specs.Sets.{FactSet, holds}
+use Rattle.atac_base.specs.Items.{ItemLists}
 use Rattle.c_meaning.specs.declared.end.RunEnd.{RunEnd}
 use Rattle.c_meaning.specs.Calls.{Source}
 use Rattle.c_meaning.specs.Deeds.{told}
 use Rattle.c_meaning.specs.Runs.{Outcome, run, run_heard}
 use Rattle.c_meaning.proofs.QuietCalls.{run_is_quiet}
-use Rattle.c_meaning.specs.Sources.{source_of}
 use Rattle.c_machine.specs.Run.{outcome_of}
-use Rattle.probe_rules.specs.Simulation.{as_logged}
-use Rattle.cover_core.specs.Covered.{covers}
-use Rattle.cover_report.specs.Texts.{report_text}
-use Rattle.cover_report.proofs.BlockLines.{report_same}
+use Rattle.probe_rules.specs.Simulation.{Simulates, as_logged}
+use Rattle.probe_laws.specs.Owners.{owner_in_program}
+use Rattle.cover_parts.specs.Covered.{Covered}
+use Rattle.cover_parts.specs.Gaining.{Has}
+use Rattle.cover_law.specs.Covers.{covers}
+use Rattle.cover_law.proofs.Covering.{covered_law, same_owners}
 use Rattle.atac_top.specs.Sections.{section_text}
-use Rattle.atac_top.specs.Programs.{block_places, block_items, section, report}
-use Rattle.atac_top.specs.Understanding.{Holds}
-use Rattle.atac_top.specs.declared.program.Understood.{Understood}
+use Rattle.atac_top.specs.Programs.{section, shown}
+use Rattle.atac_top.specs.Progress.{with_run}
 
-module _ (P : Source) (u : Understood) (input : List ℕ) (limit : ℕ) (r : RunEnd) (log : List Event) (h : Holds P u) (ran : run (source_of u.probed) input limit ≡ outcome_of r log) where
+module _ (P Q : Source) (input : List ℕ) (limit : ℕ) (r : RunEnd) (log : List Event) (simulates : Simulates Q P) (ran : run Q input limit ≡ outcome_of r log) where
   same_run : as_logged (run_heard P input limit) ≡ outcome_of r log
-  same_run = sym (h.simulates input limit) ∙ ran
+  same_run = sym (simulates input limit) ∙ ran
 
-  same_covers : (k : ℕ) → covers log k ≡ covers (told (run_heard P input limit).deeds) k
-  same_covers k = ap (λ (o : Outcome). covers o.log k) (sym same_run)
+  pub same_log : log ≡ told (run_heard P input limit).deeds
+  same_log = sym (ap (λ (o : Outcome). o.log) same_run)
 
   pub same_section : (name : List ℕ) → section_text name (outcome_of r log) ≡ section name P input limit
   same_section name = ap (section_text name) (sym same_run) ∙ sym (ap (section_text name) (run_is_quiet P input limit))
 
-  pub same_report : (marks : ℕ → Bool) → ((k : ℕ) → marks k ≡ covers log k) → report_text u.items marks ≡ report P input limit
-  same_report marks marked =
-      report_same marks (covers (told (run_heard P input limit).deeds)) (λ k. marked k ∙ same_covers k) u.items
-      ∙ ap (λ (bs : List _). report_text (block_items bs) (covers (told (run_heard P input limit).deeds))) h.blocks_are
+no_truth : IsTrue false → ⊥
+no_truth h = let e : false ≡ true = h in cc
 
--- one more block
-pub take_at : (ps : List Pos) (k j : ℕ) (p : Pos) → slice_get ps j ≡ Some p → j ≡ k → take k ps ++ p ∷ [] ≡ take (k + 1) ps
-take_at ps k j p at same = rw add-one (sym (taken ps k j p at same))
-  where
-    taken : (qs : List Pos) (i l : ℕ) (q : Pos) → slice_get qs l ≡ Some q → l ≡ i → take (suc i) qs ≡ take i qs ++ q ∷ []
-    taken [] i l q e s = absurd (cc)
-    taken (r ∷ qs) zero zero q e s = ap (λ x. x ∷ []) (cc)
-    taken (r ∷ qs) zero (suc l) q e s = absurd (cc)
-    taken (r ∷ qs) (suc i) zero q e s = absurd (cc)
-    taken (r ∷ qs) (suc i) (suc l) q e s = ap (λ xs. r ∷ xs) (taken qs i l q e (cc))
+-- two tests that hold of the same are the same
+tests_agree : (a b : Bool) → (IsTrue a → IsTrue b) → (IsTrue b → IsTrue a) → a ≡ b
+tests_agree true b f g = sym (f refl)
+tests_agree false true f g = absurd (no_truth (g refl))
+tests_agree false false f g = refl
+
+-- a set with the facts of the log has what the test says, by owners that are the program's
+pub collected : (P : Source) (owners : List (Option ℕ)) (log : List Event) (s : FactSet) (f : Fact) → ((n : ℕ) → owner_in owners n ≡ owner_in_program P n)
+    → (Has s f ↔ Covered (owner_in owners) log f) → holds s f ≡ covers (owner_in_program P) log f
+unfolding Has
+collected P owners log s f same h =
+    tests_agree (holds s f) (covers (owner_in owners) log f) (λ x. (covered_law (owner_in owners) log f).1 (h.0 x)) (λ x. h.1 ((covered_law (owner_in owners) log f).0 x))
+    ∙ same_owners (owner_in owners) (owner_in_program P) same log f
+
+or_nothing : (a : Bool) → (a || false) ≡ a
+or_nothing true = refl
+or_nothing false = refl
+
+or_assoc : (a b c : Bool) → ((a || b) || c) ≡ (a || (b || c))
+or_assoc true b c = refl
+or_assoc false b c = refl
+
+or_commutes : (a b : Bool) → (a || b) ≡ (b || a)
+or_commutes true true = refl
+or_commutes true false = refl
+or_commutes false true = refl
+or_commutes false false = refl
+
+-- one run more
+pub shown_more : (P : Source) (limit : ℕ) (all : List (List ℕ)) (bytes : List ℕ) (f : Fact) → with_run P limit bytes (shown P limit all) f ≡ shown P limit (all ++ bytes ∷ []) f
+shown_more P limit [] bytes f = or_commutes false (covers (owner_in_program P) (told (run_heard P bytes limit).deeds) f)
+shown_more P limit (b ∷ all) bytes f =
+    or_assoc (covers (owner_in_program P) (told (run_heard P b limit).deeds) f) (shown P limit all f) (covers (owner_in_program P) (told (run_heard P bytes limit).deeds) f)
+    ∙ ap (λ x. covers (owner_in_program P) (told (run_heard P b limit).deeds) f || x) (shown_more P limit all bytes f)

@@ -3,9 +3,11 @@ use Rattle.std.specs.Prelude.{ℕ, cond, leb, List, [], ◌∷◌, ◌++◌, len
 use Rattle.c_meaning.specs.Calls.{Source}
 use Rattle.atac_top.specs.Words.{Command, Check, ListItems, Cover, Run, fetched}
 use Rattle.atac_top.specs.Ends.{End, IsDone, BadWords, NotAccepted, NotHeld, TooLong}
+use Rattle.atac_base.specs.Items.{ItemLists}
 use Rattle.atac_top.specs.Programs.{Counts, Reading, Refuses, Counted, Listed, Runs, Covers, counts_text, section, report}
 
--- An answer: how the call ends, what it puts (whole sections, and then a rest), and what it keeps under which name.
+-- An answer: how the call ends, what it puts (whole sections, behind each of which memory may be wanted, and then a rest), and
+-- what it keeps under which name.
 pub record Answer : Type 0 where
   pub end : End
   pub sections : List (List ℕ)
@@ -52,13 +54,21 @@ run_by file (Refuses said) go = refused [] (NotAccepted file said)
 run_by file (Runs P) go = go P
 run_by file understood go = refused [] BadWords
 
-abbrev pub covered_by : List ℕ → Reading → (Source → Answer) → Answer
+abbrev pub covered_by : List ℕ → Reading → (Source → ItemLists → Answer) → Answer
 covered_by file (Refuses said) go = refused [] (NotAccepted file said)
-covered_by file (Covers P) go = go P
+covered_by file (Covers P items) go = go P items
 covered_by file understood go = refused [] BadWords
 
 abbrev pub input_most : ℕ
 input_most = 16777216
+
+-- The sections of the inputs that are left, behind those that were put, up to the first input that isn't got; then the report
+-- of all that were got.
+abbrev pub covering : Source → ItemLists → ℕ → List (List ℕ) → List (Option (List ℕ)) → List (List ℕ) → List (List ℕ) → Answer
+covering P items limit [] found done got = record { end = IsDone; sections = done; rest = report P items limit got; kept = None }
+covering P items limit (input ∷ inputs) [] done got = refused done BadWords
+covering P items limit (input ∷ inputs) (f ∷ found) done got =
+    given done (gets input input_most f) (λ bytes. covering P items limit inputs found (done ++ section input P bytes limit ∷ []) (got ++ bytes ∷ []))
 
 -- The answer to a command, by what is understood of the program's text and by the bytes under each name that it fetches, in their order.
 abbrev pub answer : Command → Reading → List (Option (List ℕ)) → Answer
@@ -70,16 +80,15 @@ answer (ListItems program) understood (p ∷ []) =
     given [] (gets program 1048576 p) (λ source.
     listed program understood (λ items.
     record { end = IsDone; sections = []; rest = items; kept = None }))
-answer (Cover limit program input) understood (p ∷ i ∷ []) =
+answer (Cover limit program inputs) understood (p ∷ found) =
     given [] (gets program 1048576 p) (λ source.
-    covered_by program understood (λ P.
-    given [] (gets input input_most i) (λ bytes.
-    record { end = IsDone; sections = section input P bytes limit ∷ []; rest = report P bytes limit; kept = None })))
+    covered_by program understood (λ P items.
+    covering P items limit inputs found [] []))
 answer (Run limit program input) understood (p ∷ i ∷ []) =
     given [] (gets program 67108864 p) (λ source.
     run_by program understood (λ P.
     given [] (gets input input_most i) (λ bytes.
-    record { end = IsDone; sections = section input P bytes limit ∷ []; rest = []; kept = None })))
+    record { end = IsDone; sections = []; rest = section input P bytes limit; kept = None })))
 answer command understood found = refused [] BadWords
 
 -- The same from the words.

@@ -1,5 +1,5 @@
 -- What a call supposes of the outside to be sure of its answer.
-use Rattle.std.specs.Prelude.{◌≡◌, ℕ, ◌≤◌, List, ◌++◌, length, Some}
+use Rattle.std.specs.Prelude.{◌≡◌, ℕ, ◌≤◌, List, [], ◌∷◌, ◌++◌, length, Some}
 use Rattle.std.specs.Io.KnownBytes.{append_known}
 use Rattle.atac_base.specs.Outside.{ShelfState, SinkState, Said, Rose}
 use Rattle.c_meaning.specs.Calls.{Source}
@@ -8,8 +8,9 @@ use Rattle.c_sites.specs.declared.numbered.Sites.{Sites}
 use Rattle.c_sites.specs.Refused.{AreNumbered}
 use Rattle.pair_list.specs.Items.{AreTooMany}
 use Rattle.atac_top.specs.Words.{Command, Check, ListItems, Cover, Run}
-use Rattle.atac_top.specs.Programs.{IsAccepted, IsListing, IsProbed, program_in, counts_of, counts_text, section, report}
-use Rattle.atac_top.specs.Answers.{input_most}
+use Rattle.atac_top.specs.Programs.{IsAccepted, HasItems, IsListing, IsProbed, program_in, counts_of, counts_text, section, report}
+use Rattle.atac_base.specs.Items.{ItemLists}
+use Rattle.atac_top.specs.Answers.{input_most, joined}
 
 -- The name is told, and held within the limit.
 pub record IsHeld (said : Said) (most : ℕ) : Type 0 where
@@ -33,20 +34,33 @@ pub record IsRunnable (said : Said) : Type 0 where
   pub program : Source
   pub read : IsProbed held.bytes program
 
+-- Each name is told, and holds these bytes, within the limit of an input.
+abbrev pub AreHeld : (List ℕ → Said) → List (List ℕ) → List (List ℕ) → Type 0
+AreHeld says [] [] = Unit {0}
+AreHeld says (name ∷ names) (bytes ∷ all) = (says name ≡ Some (Some bytes)) × ((length bytes ≤ input_most) × AreHeld says names all)
+AreHeld says names all = ⊥
+
 abbrev pub Supposes : Command → (List ℕ → Said) → Type 0
 Supposes (Check program) says = Passes (says program)
 Supposes (ListItems program) says = IsListable (says program)
-Supposes (Cover limit program input) says = Passes (says program) × IsHeld (says input) input_most
+Supposes (Cover limit program inputs) says = IsListable (says program) × ((all : List (List ℕ)) × AreHeld says inputs all)
 Supposes (Run limit program input) says = IsRunnable (says program) × IsHeld (says input) input_most
 
--- What the sink gains when the call is done: the line of counts; the list of the items; the section of the program's own run, and the report; that section.
+-- The sections of a program's own runs on inputs of these names and bytes.
+abbrev pub sections : Source → ℕ → List (List ℕ) → List (List ℕ) → List (List ℕ)
+sections P limit (name ∷ names) (bytes ∷ all) = section name P bytes limit ∷ sections P limit names all
+sections P limit names all = []
+
+-- What the sink gains when the call is done: the line of counts; the list of the items; the sections of the program's own runs,
+-- and the report of its items; the section of one run.
 abbrev pub Shows : Command → (List ℕ → Said) → SinkState → SinkState → Type 0
 Shows (Check program) says out out' =
     (p : Passes (says program)) → out'.bytes ≡ append_known out.bytes (counts_text (counts_of p.accepted.tables p.accepted.unit))
 Shows (ListItems program) says out out' =
     (p : Passes (says program)) → (text : List ℕ) × IsListing p.held.bytes text × (out'.bytes ≡ append_known out.bytes text)
-Shows (Cover limit program input) says out out' =
-    (p : Passes (says program)) (i : IsHeld (says input) input_most) → out'.bytes ≡ append_known out.bytes (section input (program_in p.accepted) i.bytes limit ++ report (program_in p.accepted) i.bytes limit)
+Shows (Cover limit program inputs) says out out' =
+    (p : Passes (says program)) (all : List (List ℕ)) → AreHeld says inputs all
+    → (items : ItemLists) × HasItems p.accepted items × (out'.bytes ≡ append_known out.bytes (joined (sections (program_in p.accepted) limit inputs all) ++ report (program_in p.accepted) items limit all))
 Shows (Run limit program input) says out out' =
     (p : IsRunnable (says program)) (i : IsHeld (says input) input_most) → out'.bytes ≡ append_known out.bytes (section input p.program i.bytes limit)
 

@@ -10,3 +10,4 @@ pub mod Stops
 pub mod Steps
 pub mod Claims
 pub mod Understanding
+pub mod Progress

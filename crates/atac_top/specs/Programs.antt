@@ -1,5 +1,5 @@
 -- What is understood of a program's text, and the texts of its run on an input.
-use Rattle.std.specs.Prelude.{◌≡◌, ℕ, List, [], ◌∷◌, ◌++◌, length, codes, Some, None}
+use Rattle.std.specs.Prelude.{◌≡◌, ℕ, Bool, false, ◌||◌, List, [], ◌∷◌, ◌++◌, length, codes, Some, None}
 use Rattle.std.specs.Fmt.{decimal}
 use Rattle.c_base.specs.declared.place.Pos.{Pos}
 use Rattle.atac_base.specs.Items.{ItemLists}
@@ -10,7 +10,6 @@ use Rattle.c_front.specs.Front as front
 use Rattle.c_front.specs.Names.{name}
 use Rattle.c_walk.specs.Items.{Item}
 use Rattle.c_walk.specs.Units.{items_of}
-use Rattle.c_sites.specs.Kinds.{blocks}
 use Rattle.c_sites.specs.Lists.{Lists, lists_of}
 use Rattle.c_sites.specs.Numbers.{names_of}
 use Rattle.c_sites.specs.declared.numbered.Sites.{Sites}
@@ -20,7 +19,9 @@ use Rattle.c_meaning.specs.Calls.{Source}
 use Rattle.c_meaning.specs.Deeds.{told}
 use Rattle.c_meaning.specs.Runs.{run, run_heard}
 use Rattle.atac_top.specs.Words.{Command, Check, ListItems, Cover, Run}
-use Rattle.cover_core.specs.Covered.{covers}
+use Rattle.atac_facts.specs.declared.fact.Fact.{Fact}
+use Rattle.probe_laws.specs.Owners.{owner_in_program}
+use Rattle.cover_law.specs.Covers.{covers}
 use Rattle.cover_report.specs.ItemTexts.{list_text}
 use Rattle.cover_report.specs.Texts.{report_text}
 use Rattle.atac_top.specs.Sections.{section_text}
@@ -45,16 +46,20 @@ pub data Rejection (source said : List ℕ) : Type 0 where
   by_front : (number : ℕ) (p : Pos) → front.IsRead Plain source (front.refused number p) → said ≡ refusal_text number p → Rejection source said
   by_sites : (u : full.UnitShape) (t : TablesShape) (number : ℕ) (p : Pos) → front.IsRead Plain source (front.program u t) → refusal t u ≡ Some (number, p) → said ≡ refusal_text number p → Rejection source said
 
--- The text is accepted, and this is the list of its program's items, by sites that are its own.
+-- These are the items of an accepted program, by sites that are its own.
+pub record HasItems {source : List ℕ} (a : IsAccepted source) (items : ItemLists) : Type 0 where
+  pub sites : Sites
+  pub numbered : AreNumbered a.tables.structures (items_of a.tables a.unit) sites
+  pub are : AreItems a.tables a.unit sites items
+
+-- The text is accepted, and this is the list of its program's items.
 pub record IsListing (source text : List ℕ) : Type 0 where
   pub accepted : IsAccepted source
-  pub sites : Sites
-  pub numbered : AreNumbered accepted.tables.structures (items_of accepted.tables accepted.unit) sites
   pub items : ItemLists
-  pub are : AreItems accepted.tables accepted.unit sites items
+  pub has : HasItems accepted items
   pub text_is : text ≡ list_text items
 
--- Why there is no list: the text is not accepted; or its c-uses and p-uses are too many, which is said of its first place.
+-- Why there are no items: the text is not accepted; or its c-uses and p-uses are too many, which is said of its first place.
 pub data Unlisted (source said : List ℕ) : Type 0 where
   not_accepted : Rejection source said → Unlisted source said
   too_many : (a : IsAccepted source) (s : Sites) → AreNumbered a.tables.structures (items_of a.tables a.unit) s → AreTooMany a.tables a.unit s → said ≡ refusal_text 51 (record { line = 1; col = 1 }) → Unlisted source said
@@ -93,23 +98,24 @@ counts_text n =
     codes "accepted: " ++ (decimal n.blocks ++ (codes " blocks, " ++ (decimal n.decisions ++ (codes " decisions, " ++ (decimal n.definitions ++ (codes " definitions, " ++ (decimal n.uses ++ codes " uses\n")))))))
 
 -- What a text is read as: refused, with what is said of it; accepted, with its counts; a program with the list of its items;
--- one to be run; or one to be covered.
+-- one to be run; or one to be covered, with its items.
 pub data Reading : Type 0 where
   Refuses : (said : List ℕ) → Reading
   Counted : (n : Counts) → Reading
   Listed : (text : List ℕ) → Reading
   Runs : (P : Source) → Reading
-  Covers : (P : Source) → Reading
+  Covers : (P : Source) (items : ItemLists) → Reading
 
 -- The text is accepted, and has these counts.
 pub record IsCounted (source : List ℕ) (n : Counts) : Type 0 where
   pub accepted : IsAccepted source
   pub counts : n ≡ counts_of accepted.tables accepted.unit
 
--- The text is accepted as P.
-pub record IsCovered (source : List ℕ) (P : Source) : Type 0 where
+-- The text is accepted as P, which has these items.
+pub record IsCovered (source : List ℕ) (P : Source) (items : ItemLists) : Type 0 where
   pub accepted : IsAccepted source
   pub program : P ≡ program_in accepted
+  pub has : HasItems accepted items
 
 -- What a command understands of its program's text.
 abbrev pub IsUnderstood : Command → List ℕ → Reading → Type 0
@@ -117,8 +123,8 @@ IsUnderstood (Check program) source (Refuses said) = Rejection source said
 IsUnderstood (Check program) source (Counted n) = IsCounted source n
 IsUnderstood (ListItems program) source (Refuses said) = Unlisted source said
 IsUnderstood (ListItems program) source (Listed text) = IsListing source text
-IsUnderstood (Cover limit program input) source (Refuses said) = Rejection source said
-IsUnderstood (Cover limit program input) source (Covers P) = IsCovered source P
+IsUnderstood (Cover limit program inputs) source (Refuses said) = Unlisted source said
+IsUnderstood (Cover limit program inputs) source (Covers P items) = IsCovered source P items
 IsUnderstood (Run limit program input) source (Refuses said) = Unread source said
 IsUnderstood (Run limit program input) source (Runs P) = IsProbed source P
 IsUnderstood command source understood = ⊥
@@ -127,14 +133,12 @@ IsUnderstood command source understood = ⊥
 abbrev pub section : List ℕ → Source → List ℕ → ℕ → List ℕ
 section input P bytes limit = section_text input (run P bytes limit)
 
--- The places of a program's blocks, by number.
-abbrev pub block_places : Source → List Pos
-block_places P = blocks (items_of P.tables P.unit)
+-- What some of a program's own runs on these inputs shows, each by itself: by the events that are told of it, and the
+-- decisions that the program's uses belong to.
+abbrev pub shown : Source → ℕ → List (List ℕ) → Fact → Bool
+shown P limit [] f = false
+shown P limit (bytes ∷ rest) f = covers (owner_in_program P) (told (run_heard P bytes limit).deeds) f || shown P limit rest f
 
--- blocks alone, as items
-abbrev pub block_items : List Pos → ItemLists
-block_items places = record { blocks = places; outcomes = []; c_uses = []; p_uses = []; names = [] }
-
--- The report: a block is covered where its event is among those that are told of the program's own run.
-abbrev pub report : Source → List ℕ → ℕ → List ℕ
-report P bytes limit = report_text (block_items (block_places P)) (covers (told (run_heard P bytes limit).deeds))
+-- The report: an item is covered where some of these runs shows it.
+abbrev pub report : Source → ItemLists → ℕ → List (List ℕ) → List ℕ
+report P items limit inputs = report_text items (shown P limit inputs)

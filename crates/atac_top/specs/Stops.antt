@@ -1,7 +1,8 @@
 -- The stops of the program as ends of a call, and its commands as commands.
-use Rattle.std.specs.Prelude.{◌≤◌, Result, Ok, Err, string_bytes}
+use Rattle.std.specs.Prelude.{◌≤◌, ℕ, List, Result, Ok, Err, map, string_bytes}
 use Rattle.atac_top.specs.declared.stop.Stop.{Stop}
 use Rattle.atac_top.specs.declared.stop.Stop.TheVariants as stop
+use Rattle.atac_top.specs.declared.words.Turns.{Turns}
 use Rattle.atac_top.specs.declared.words.Asked.{Asked}
 use Rattle.atac_top.specs.declared.words.Asked.TheVariants as asked
 use Rattle.atac_top.specs.Words.{Command, Check, ListItems, Cover, Run, turns_most}
@@ -23,12 +24,15 @@ ended (Err stop) = end_of stop
 abbrev pub command_of : Asked → Command
 command_of (asked.Check program) = Check program.now
 command_of (asked.List program) = ListItems program.now
-command_of (asked.Cover limit program input) = Cover limit program.now input.now
+command_of (asked.Cover limit program inputs) = Cover limit program.now (map string_bytes inputs.now)
 command_of (asked.Run limit program input) = Run limit program.now input.now
 
 -- no more turns are asked for than may be
 abbrev pub IsFew : Asked → Type 0
 IsFew (asked.Check program) = Unit {0}
 IsFew (asked.List program) = Unit {0}
-IsFew (asked.Cover limit program input) = limit ≤ turns_most
+IsFew (asked.Cover limit program inputs) = limit ≤ turns_most
 IsFew (asked.Run limit program input) = limit ≤ turns_most
+
+abbrev pub turns_of : Turns → ℕ × List (List ℕ)
+turns_of t = (t.limit, map string_bytes t.words.now)

@@ -8,9 +8,14 @@ use Rattle.c_sites.specs.declared.numbered.Sites.{Sites}
 use Rattle.c_sites.specs.Refused.{AreSites}
 use Rattle.c_meaning.specs.Calls.{Source}
 use Rattle.probe_rules.specs.Simulation.{Simulates}
-use Rattle.atac_top.specs.Programs.{IsAccepted, IsListing, IsProbed, Rejection, Unlisted, Unread, program_in, lists_in, block_places}
+use Rattle.c_events.specs.Owners.{owner_in}
+use Rattle.probe_laws.specs.Owners.{owner_in_program}
+use Rattle.atac_base.specs.Items.{ItemLists}
+use Rattle.atac_top.specs.Programs.{IsAccepted, HasItems, IsListing, IsProbed, Rejection, Unlisted, Unread, program_in, lists_in}
 use Rattle.atac_top.specs.declared.checking.Checking.{Checking}
 use Rattle.atac_top.specs.declared.checking.Checking.TheVariants as checking
+use Rattle.atac_top.specs.declared.listing.Itemising.{Itemising}
+use Rattle.atac_top.specs.declared.listing.Itemising.TheVariants as itemising
 use Rattle.atac_top.specs.declared.listing.Listing.{Listing}
 use Rattle.atac_top.specs.declared.listing.Listing.TheVariants as listing
 use Rattle.atac_top.specs.declared.program.Understood.{Understood}
@@ -19,10 +24,10 @@ use Rattle.atac_top.specs.declared.program.Reading.TheVariants as reading
 use Rattle.atac_top.specs.declared.program.Runnable.{Runnable}
 use Rattle.atac_top.specs.declared.program.Runnable.TheVariants as runnable
 
--- a program that does with its probes what this one does, and the places of this one's blocks
+-- a program that does with its probes what this one does, and the decisions that this one's uses belong to
 pub record Holds (P : Source) (u : Understood) : Type 0 where
   pub simulates : Simulates (source_of u.probed) P
-  pub blocks_are : u.items.blocks ≡ block_places P
+  pub owners : (n : ℕ) → owner_in u.owners n ≡ owner_in_program P n
 
 -- what the code answers of a text that is to be checked: why it is not accepted, or its program and sites
 pub record HasSites (source : List ℕ) (p : whole.Program) (s : Sites) : Type 0 where
@@ -35,18 +40,28 @@ abbrev pub CheckedAs : List ℕ → Checking → Type 0
 CheckedAs source (checking.Refuses said) = Rejection source (string_bytes said)
 CheckedAs source (checking.Accepts p s) = HasSites source p s
 
--- what the code answers of a text whose items are to be listed
+-- what the code answers of a text whose items are wanted: why there are none; or its program, sites and items
+pub record IsItemised (source : List ℕ) (p : whole.Program) (s : Sites) (items : ItemLists) : Type 0 where
+  pub sites : HasSites source p s
+  pub has : HasItems sites.accepted items
+
+abbrev pub ItemisedAs : List ℕ → Itemising → Type 0
+ItemisedAs source (itemising.Refuses said) = Unlisted source (string_bytes said)
+ItemisedAs source (itemising.Has p s items) = IsItemised source p s items
+
+-- and of one that is to be listed
 abbrev pub ListedAs : List ℕ → Listing → Type 0
 ListedAs source (listing.Refuses said) = Unlisted source (string_bytes said)
 ListedAs source (listing.Lists text) = IsListing source text.items
 
--- what the code answers of a text that is to be covered
+-- and of one that is to be covered
 pub record CoveredAs (source : List ℕ) (u : Understood) : Type 0 where
   pub accepted : IsAccepted source
   pub holds : Holds (program_in accepted) u
+  pub has : HasItems accepted u.items
 
 abbrev pub ReadAs : List ℕ → Reading → Type 0
-ReadAs source (reading.Refuses said) = Rejection source (string_bytes said)
+ReadAs source (reading.Refuses said) = Unlisted source (string_bytes said)
 ReadAs source (reading.Covers understood) = CoveredAs source understood
 
 -- and of one that is to be run

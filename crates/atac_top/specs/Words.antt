@@ -1,5 +1,5 @@
 -- How the words of the command line are read.
-use Rattle.std.specs.Prelude.{ℕ, Bool, true, not, ◌==◌, ◌&&◌, leb, cond, List, [], ◌∷◌, Option, None, Some, option_and_then, bytes_eq, codes}
+use Rattle.std.specs.Prelude.{ℕ, Bool, true, not, ◌==◌, ◌&&◌, leb, cond, List, [], ◌∷◌, length, Option, None, Some, option_and_then, option_map, bytes_eq, codes}
 use Rattle.std.specs.Fmt.{decimal}
 use Rattle.std.specs.Str.Parse.{digits_value}
 
@@ -9,9 +9,9 @@ pub data Command : Type 0 where
   Check : (program : List ℕ) → Command
   -- list the program's items
   ListItems : (program : List ℕ) → Command
-  -- run the program on the input within so many turns, and report what was covered
-  Cover : (limit : ℕ) (program input : List ℕ) → Command
-  -- run it, with probes or without, and no more
+  -- run the program on the inputs, one after the other, each within so many turns, and report what was covered
+  Cover : (limit : ℕ) (program : List ℕ) (inputs : List (List ℕ)) → Command
+  -- run it on one input, with probes or without, and no more
   Run : (limit : ℕ) (program input : List ℕ) → Command
 
 -- An operand doesn't begin with a dash.
@@ -33,27 +33,46 @@ is_limit word n = bytes_eq word (decimal n) && (leb 1 n && leb n turns_most)
 unfoldable pub limit_of : List ℕ → Option ℕ
 limit_of word = cond (is_limit word (digits_value 10 word)) (Some (digits_value 10 word)) None
 
--- A run within so many turns.
-abbrev pub runs_within : List ℕ → ℕ → List ℕ → List ℕ → Option Command
-runs_within word limit program input =
-    cond (is_operand program && is_operand input)
-    (cond (bytes_eq word (codes "cover")) (Some (Cover limit program input)) (cond (bytes_eq word (codes "run")) (Some (Run limit program input)) None))
-    None
+abbrev pub are_operands : List (List ℕ) → Bool
+are_operands [] = true
+are_operands (word ∷ words) = is_operand word && are_operands words
 
--- A command that takes a program alone.
-abbrev pub of_program : List ℕ → List ℕ → Option Command
-of_program word program =
-    cond (is_operand program)
-    (cond (bytes_eq word (codes "check")) (Some (Check program)) (cond (bytes_eq word (codes "list")) (Some (ListItems program)) None))
-    None
+-- The most inputs of one call.
+abbrev pub inputs_most : ℕ
+inputs_most = 1000
+
+-- What each command makes of the words behind its own, and behind those of the turns.
+abbrev pub check_words : List (List ℕ) → Option Command
+check_words (program ∷ []) = cond (is_operand program) (Some (Check program)) None
+check_words words = None
+
+abbrev pub list_words : List (List ℕ) → Option Command
+list_words (program ∷ []) = cond (is_operand program) (Some (ListItems program)) None
+list_words words = None
+
+abbrev pub run_words : ℕ → List (List ℕ) → Option Command
+run_words limit (program ∷ input ∷ []) = cond (is_operand program && is_operand input) (Some (Run limit program input)) None
+run_words limit words = None
+
+abbrev pub cover_words : ℕ → List (List ℕ) → Option Command
+cover_words limit (program ∷ input ∷ inputs) =
+    cond (leb (length (input ∷ inputs)) inputs_most && are_operands (program ∷ input ∷ inputs)) (Some (Cover limit program (input ∷ inputs))) None
+cover_words limit words = None
+
+-- How many turns the words allow, and the words behind that.
+abbrev pub turns_first : List (List ℕ) → Option (ℕ × List (List ℕ))
+turns_first (option ∷ turns ∷ words) =
+    cond (bytes_eq option (codes "-t")) (option_map (λ limit. (limit, words)) (limit_of turns)) (Some (turn_limit, option ∷ turns ∷ words))
+turns_first words = Some (turn_limit, words)
 
 -- The command that the words are, if they are one. All other words, and no words, are none.
 abbrev pub reads : List (List ℕ) → Option Command
-reads (word ∷ program ∷ []) = of_program word program
-reads (word ∷ program ∷ input ∷ []) = runs_within word turn_limit program input
-reads (word ∷ option ∷ turns ∷ program ∷ input ∷ []) =
-    cond (bytes_eq option (codes "-t")) (option_and_then (λ limit. runs_within word limit program input) (limit_of turns)) None
-reads words = None
+reads [] = None
+reads (word ∷ words) =
+    cond (bytes_eq word (codes "check")) (check_words words)
+    (cond (bytes_eq word (codes "list")) (list_words words)
+    (cond (bytes_eq word (codes "run")) (option_and_then (λ w. run_words w.0 w.1) (turns_first words))
+    (cond (bytes_eq word (codes "cover")) (option_and_then (λ w. cover_words w.0 w.1) (turns_first words)) None)))
 
 -- The name of its program.
 abbrev pub program_of : Command → List ℕ
@@ -71,5 +90,5 @@ program_most command = 1048576
 abbrev pub fetched : Command → List (List ℕ)
 fetched (Check program) = program ∷ []
 fetched (ListItems program) = program ∷ []
-fetched (Cover limit program input) = program ∷ input ∷ []
+fetched (Cover limit program inputs) = program ∷ inputs
 fetched (Run limit program input) = program ∷ input ∷ []

@@ -1,14 +1,15 @@
 //! What each command fetches, does and puts.
 
 ghost use Rattle.std.specs.Prelude.{◌≤◌, Some};
-ghost use Rattle.atac_top.specs.Words.{Check, Cover, ListItems, Run};
+ghost use Rattle.atac_top.specs.Words.{Check, ListItems, Run};
 ghost use Rattle.atac_top.specs.Stops.{command_of, ended, IsFew};
 ghost use Rattle.atac_top.specs.Runs.{Goes};
 
 use crate::checking::{self, Checking, counts_of};
+use crate::covering::cover;
 use crate::listing::{self, Listing};
 use crate::outside::{fetch, put};
-use crate::program::{self, Reading, Runnable, read_to_run, section_of, understand};
+use crate::program::{Runnable, read_to_run, section_of};
 use crate::stop::Stop;
 use crate::words::Asked;
 use atac_base::outside::{Shelf, Sink};
@@ -60,30 +61,6 @@ fn list<'a, S: Shelf, W: Sink>(
     put(out, text.as_slice())
 }
 
-// Runs the program on the input and puts the section and the report.
-fn cover<'a, S: Shelf, W: Sink>(
-    alloc: Global,
-    limit: u64,
-    program: &'a str,
-    input: &'a str,
-    shelf: &mut S,
-    out: &mut W,
-) -> Result<(), Stop<'a>>
-    requires { limit ≤ 100000000 }
-    ensures { Goes (Some (Cover limit program.now input.now)) (S.state shelf.old) (S.state shelf.new)
-        (W.state out.old) (W.state out.new) (ended result) }
-{
-    let source = fetch(alloc, shelf, program, PROGRAM_MOST)?;
-    let understood = match understand(alloc, source.as_slice())? {
-        Reading::Refuses(said) => return Err(Stop::NotAccepted(program, said)),
-        Reading::Covers(understood) => understood,
-    };
-    let bytes = fetch(alloc, shelf, input, INPUT_MOST)?;
-    let covering = program::cover(alloc, &understood, limit, input, bytes.as_slice())?;
-    put(out, covering.section.as_slice())?;
-    put(out, covering.report.as_slice())
-}
-
 // Runs the program, plain or with probes, on the input and puts the section.
 fn run<'a, S: Shelf, W: Sink>(
     alloc: Global,
@@ -121,7 +98,7 @@ pub fn carry_out<'a, S: Shelf, W: Sink>(
     match asked {
         Asked::Check(program) => check(alloc, program, shelf, out),
         Asked::List(program) => list(alloc, program, shelf, out),
-        Asked::Cover(limit, program, input) => cover(alloc, limit, program, input, shelf, out),
+        Asked::Cover(limit, program, inputs) => cover(alloc, limit, program, inputs, shelf, out),
         Asked::Run(limit, program, input) => run(alloc, limit, program, input, shelf, out),
     }
 }

@@ -3,6 +3,7 @@
 
 mod checking;
 mod commands;
+mod covering;
 mod listing;
 mod outside;
 mod program;

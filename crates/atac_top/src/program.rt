@@ -1,41 +1,34 @@
-//! Programs that are run or covered, from their texts to what is put of them.
+//! Programs that are run or covered, from their texts on.
 
 ghost use Rattle.std.specs.Prelude.{◌≡◌, ◌≤◌, length, IfOk};
-ghost use Rattle.c_meaning.specs.Calls.{Source};
 ghost use Rattle.c_meaning.specs.Sources.{source_of};
-ghost use Rattle.atac_top.specs.Programs.{section, report};
-ghost use Rattle.atac_top.specs.Understanding.{Holds, ReadAs, RunAs};
+ghost use Rattle.atac_top.specs.Programs.{section};
+ghost use Rattle.atac_top.specs.Understanding.{ReadAs, RunAs};
 
-use crate::checking::{Checking, check, said};
+use crate::checking::said;
+use crate::listing::{Itemising, itemise};
 use crate::sections::section_of_run;
 use atac_base::items::Items;
 use atac_base::probes::Deaf;
 use c_base::place::NoMemory;
+use c_events::owners::Owners;
 use c_front::{FrontRefusal, read};
 use c_lex::TextKind;
 use c_machine::run;
-use c_sites::Sites;
+use c_sites_probes::owners::probe_owners;
 use c_tree::program::Program;
-use cover_core::collector::Collector;
-use cover_report::report::report;
 use probe_in::instrument;
 use std::alloc::Global;
 
 // The digest in the program line of a program that is run at once and not written.
 const NO_DIGEST: [u8; 32] = [0; 32];
 
-/// A program that is to be covered: itself with its probes, and the items of its report.
+/// A program that is to be covered: itself with its probes, the owners of these, and its items.
 #[derive(Drop)]
 pub struct Understood {
-    probed: Program,
-    items: Items,
-}
-
-/// What a run that is covered puts: the section of the run, and the report of what it covered.
-#[derive(Drop)]
-pub struct Covering {
-    pub section: Vec<u8>,
-    pub report: Vec<u8>,
+    pub probed: Program,
+    pub owners: Owners,
+    pub items: Items,
 }
 
 /// What a text is read as that is to be covered: refused, with what is said of it; or a program.
@@ -64,29 +57,22 @@ pub fn read_to_run(alloc: Global, text: &[u8]) -> Result<Runnable, NoMemory>
     }
 }
 
-/// Reads the text of a program that is to be covered: why it is not accepted, or the program with its probes.
+/// Reads the text of a program that is to be covered: why it is not accepted, or the program with its probes and items.
 pub fn understand(alloc: Global, text: &[u8]) -> Result<Reading, NoMemory>
     requires { length text.now ≤ 1048576 }
     ensures { IfOk result (ReadAs text.now) }
 {
-    let (program, sites) = match check(alloc, text)? {
-        Checking::Refuses(said) => return Ok(Reading::Refuses(said)),
-        Checking::Accepts(program, sites) => (program, sites),
+    let (program, sites, items) = match itemise(alloc, text)? {
+        Itemising::Refuses(said) => return Ok(Reading::Refuses(said)),
+        Itemising::Has(program, sites, items) => (program, sites, items),
     };
     let probed = instrument(alloc, &program, &sites, &NO_DIGEST)?;
-    let items = items_of(alloc, &sites)?;
-    Ok(Reading::Covers(Understood { probed, items }))
-}
-
-// The blocks of the report.
-fn items_of(alloc: Global, sites: &Sites) -> Result<Items, NoMemory>
-    ensures { IfOk result (λ items. items.blocks ≡ sites.now.lists.blocks.items) }
-{
-    let mut items = Items::new(alloc);
-    for k in 0..sites.blocks() {
-        items.push_block(sites.block(k + 1))?;
-    }
-    Ok(items)
+    let owners = probe_owners(alloc, &probed)?;
+    Ok(Reading::Covers(Understood {
+        probed,
+        owners,
+        items,
+    }))
 }
 
 /// Runs the program on the input within so many turns, and makes the section of this run.
@@ -104,23 +90,4 @@ pub fn section_of(
     let ended = run(alloc, program, input, limit, &mut deaf)?;
     let text = section_of_run(alloc, input_name, &ended)?;
     Ok(text)
-}
-
-/// Runs the program with its probes on the input within so many turns, and makes the section and the report of this run.
-pub fn cover(
-    alloc: Global,
-    understood: &Understood,
-    limit: u64,
-    input_name: &str,
-    input: &[u8],
-) -> Result<Covering, NoMemory>
-    requires { limit ≤ 100000000 }
-    ensures section { IfOk result (λ c. (P : Source) → Holds P understood.now → c.section.items ≡ section input_name.now P input.now limit) }
-    ensures report { IfOk result (λ c. (P : Source) → Holds P understood.now → c.report.items ≡ report P input.now limit) }
-{
-    let mut collector = Collector::new(alloc);
-    let ended = run(alloc, &understood.probed, input, limit, &mut collector)?;
-    let section = section_of_run(alloc, input_name, &ended)?;
-    let report = report(alloc, &understood.items, collector.facts())?;
-    Ok(Covering { section, report })
 }

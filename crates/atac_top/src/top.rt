@@ -1,6 +1,6 @@
 //! The top call.
 
-ghost use Rattle.std.specs.Prelude.{◌≡◌, ◌⊎◌, ◌↔◌, ◌++◌, ℕ, List, IsTrue, map, string_bytes, Some, None, IfSome};
+ghost use Rattle.std.specs.Prelude.{◌≡◌, ◌⊎◌, ◌↔◌, ◌++◌, ℕ, List, Option, IsTrue, map, string_bytes, Some, None, IfSome};
 ghost use Rattle.atac_base.specs.Outside.{Rose};
 ghost use Rattle.atac_top.specs.Programs.{IsAccepted, program_in};
 ghost use Rattle.atac_top.specs.Words.{reads};
@@ -9,7 +9,9 @@ ghost use Rattle.atac_top.specs.Stops.{end_of};
 ghost use Rattle.atac_top.specs.Runs.{Runs, Tells};
 ghost use Rattle.atac_top.specs.Claims.{Supposes, Shows, NoFault};
 ghost use Rattle.c_events.specs.declared.events.Event.{Event};
-ghost use Rattle.cover_core.specs.Covered.{covers, IsCovered};
+ghost use Rattle.atac_facts.specs.declared.fact.Fact.{Fact};
+ghost use Rattle.cover_parts.specs.Covered.{Covered};
+ghost use Rattle.cover_law.specs.Covers.{covers};
 
 use crate::commands::carry_out;
 use crate::status::Status;
@@ -75,12 +77,13 @@ fn put_four<E: Sink>(err: &mut E, a: &[u8], b: &[u8], c: &[u8], d: &[u8]) -> Res
 /// `out`. `list P` does the same, refuses it where its c-uses and p-uses are more than 1,000,000, and puts the list of its
 /// items. `run [-t N] P INPUT` fetches P, which may have probes, at most 67,108,864 bytes, and refuses it where it is no
 /// program; fetches INPUT, at most 16,777,216 bytes; runs P on it within N turns, from 1 to 100,000,000, or 1,000,000; and puts
-/// the section of this run to `out`. `cover [-t N] P INPUT` refuses P as `check` does, and puts the report of what this run
-/// covers behind the section. All other words are no command. An operand doesn't begin with `-`; an empty one
-/// is a name like another.
+/// the section of this run to `out`. `cover [-t N] P INPUT1 .. INPUTn`, with 1 to 1,000 inputs, refuses P as `list` does,
+/// does the same on each input in turn, and puts the report of what these runs cover behind the sections; where an input is
+/// refused, the sections before it stand. All other words are no command. An operand doesn't begin with `-`; an empty one is a
+/// name like another.
 ///
 /// `NoMemory` may come in place of each status but `Usage`. A put to `err` that fails leaves the status as it is.
-#[tactic(auto, using(cover_core::proofs::Laws::covered_law))]
+#[tactic(auto, using(cover_law::proofs::Covering::covered_law))]
 pub fn atac<S: Shelf, W: Sink, E: Sink>(
     alloc: Global,
     words: &Vec<String>,
@@ -108,8 +111,8 @@ pub fn atac<S: Shelf, W: Sink, E: Sink>(
     // A text is one program at most.
     ensures one_program { (source : List ℕ) (a b : IsAccepted source) → program_in b ≡ program_in a }
 
-    // A block is covered exactly where some position of the run's events holds it.
-    ensures covered { (events : List Event) (k : ℕ) → IsTrue (covers events k) ↔ IsCovered events k }
+    // A block, an outcome, a pair or a p-use is shown exactly where positions of the run's events show it.
+    ensures covered { (owner : ℕ → Option ℕ) (events : List Event) (fact : Fact) → IsTrue (covers owner events fact) ↔ Covered owner events fact }
 
     // Where the files are held, the program is understood and no count of faults rose, the call is done, or memory was wanted.
     ensures complete { IfSome (reads (map string_bytes words.now.items)) (λ command.

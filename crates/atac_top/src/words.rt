@@ -1,8 +1,8 @@
 //! The words of a call, and what they ask for.
 
-ghost use Rattle.std.specs.Prelude.{◌≡◌, ◌≤◌, [], ◌∷◌, map, string_bytes, option_map, IfSome};
-ghost use Rattle.atac_top.specs.Words.{is_operand, limit_of, of_program, runs_within, reads};
-ghost use Rattle.atac_top.specs.Stops.{command_of, IsFew};
+ghost use Rattle.std.specs.Prelude.{◌≡◌, ◌≤◌, [], ◌∷◌, ℕ, List, map, drop, string_bytes, option_map, IfSome};
+ghost use Rattle.atac_top.specs.Words.{is_operand, are_operands, limit_of, check_words, list_words, run_words, cover_words, turns_first, reads};
+ghost use Rattle.atac_top.specs.Stops.{command_of, IsFew, turns_of};
 
 /// The most turns of a run, where the words don't say.
 const TURN_LIMIT: u64 = 1_000_000;
@@ -10,13 +10,16 @@ const TURN_LIMIT: u64 = 1_000_000;
 /// The most that they may say.
 const TURNS_MOST: u64 = 100_000_000;
 
-/// What the words ask for: a program is checked; its items are listed; it is run on an input within so many turns, and
-/// what this covers is reported; or it is run, and no more.
+/// The most inputs of one call.
+const INPUTS_MOST: usize = 1_000;
+
+/// What the words ask for: a program is checked; its items are listed; it is run on inputs, one after the other, each within
+/// so many turns, and what this covers is reported; or it is run on one input, and no more.
 #[derive(Clone, Copy, Debug)]
 pub enum Asked<'a> {
     Check(&'a str),
     List(&'a str),
-    Cover(u64, &'a str, &'a str),
+    Cover(u64, &'a str, &'a [String]),
     Run(u64, &'a str, &'a str),
 }
 
@@ -55,68 +58,120 @@ pub fn read_words(words: &Vec<String>) -> Option<Asked<'_>>
     ensures command { option_map command_of result ≡ reads (map string_bytes words.now.items) }
     ensures few { IfSome result IsFew }
 {
-    match words.as_slice() {
-        [word, program] => asks_of_program(word.as_str(), program.as_str()),
-        [word, program, input] => {
-            asks_run(word.as_str(), TURN_LIMIT, program.as_str(), input.as_str())
-        }
-        [word, option, turns, program, input] => asks_within(
-            word.as_str(),
-            option.as_str(),
-            turns.as_str(),
-            program.as_str(),
-            input.as_str(),
-        ),
-        _ => None,
-    }
-}
-
-fn asks_of_program<'a>(word: &str, program: &'a str) -> Option<Asked<'a>>
-    ensures command { option_map command_of result ≡ of_program word.now program.now }
-    ensures few { IfSome result IsFew }
-{
-    if !may_be_operand(program) {
-        return None;
-    }
+    let (word, words) = words.as_slice().split_first()?;
+    let word = word.as_str();
     if word == "check" {
-        return Some(Asked::Check(program));
+        return asks_check(words);
     }
     if word == "list" {
-        return Some(Asked::List(program));
-    }
-    None
-}
-
-fn asks_within<'a>(
-    word: &str,
-    option: &str,
-    turns: &str,
-    program: &'a str,
-    input: &'a str,
-) -> Option<Asked<'a>>
-    ensures command { option_map command_of result ≡ reads (word.now ∷ option.now ∷ turns.now ∷ program.now ∷ input.now ∷ []) }
-    ensures few { IfSome result IsFew }
-{
-    if option != "-t" {
-        return None;
-    }
-    let limit = limit_of(turns)?;
-    asks_run(word, limit, program, input)
-}
-
-fn asks_run<'a>(word: &str, limit: u64, program: &'a str, input: &'a str) -> Option<Asked<'a>>
-    requires { limit ≤ 100000000 }
-    ensures command { option_map command_of result ≡ runs_within word.now limit program.now input.now }
-    ensures few { IfSome result IsFew }
-{
-    if !(may_be_operand(program) && may_be_operand(input)) {
-        return None;
-    }
-    if word == "cover" {
-        return Some(Asked::Cover(limit, program, input));
+        return asks_list(words);
     }
     if word == "run" {
-        return Some(Asked::Run(limit, program, input));
+        let turns = turns_first(words)?;
+        return asks_run(turns.limit, turns.words);
+    }
+    if word == "cover" {
+        let turns = turns_first(words)?;
+        return asks_cover(turns.limit, turns.words);
     }
     None
+}
+
+/// How many turns the words allow, and the words behind that.
+#[derive(Clone, Copy, Debug)]
+pub struct Turns<'a> {
+    limit: u64,
+    words: &'a [String],
+}
+
+// The turns that the words allow, as `-t N` in front of the others, or none.
+fn turns_first(words: &[String]) -> Option<Turns<'_>>
+    ensures turns { option_map turns_of result ≡ turns_first (map string_bytes words.now) }
+    ensures few { IfSome result (λ t. t.limit ≤ 100000000) }
+{
+    let all = Turns {
+        limit: TURN_LIMIT,
+        words,
+    };
+    let Some((option, rest)) = words.split_first() else {
+        return Some(all);
+    };
+    let Some((turns, operands)) = rest.split_first() else {
+        return Some(all);
+    };
+    if option.as_str() != "-t" {
+        return Some(all);
+    }
+    let limit = limit_of(turns.as_str())?;
+    Some(Turns {
+        limit,
+        words: operands,
+    })
+}
+
+fn asks_check(words: &[String]) -> Option<Asked<'_>>
+    ensures command { option_map command_of result ≡ check_words (map string_bytes words.now) }
+    ensures few { IfSome result IsFew }
+{
+    let program = only(words)?;
+    Some(Asked::Check(program))
+}
+
+fn asks_list(words: &[String]) -> Option<Asked<'_>>
+    ensures command { option_map command_of result ≡ list_words (map string_bytes words.now) }
+    ensures few { IfSome result IsFew }
+{
+    let program = only(words)?;
+    Some(Asked::List(program))
+}
+
+// The one word, where it may be an operand.
+fn only(words: &[String]) -> Option<&str>
+    ensures check { option_map (λ w. command_of (Asked.Check w)) result ≡ check_words (map string_bytes words.now) }
+    ensures list { option_map (λ w. command_of (Asked.List w)) result ≡ list_words (map string_bytes words.now) }
+{
+    let (program, rest) = words.split_first()?;
+    if !rest.is_empty() || !may_be_operand(program.as_str()) {
+        return None;
+    }
+    Some(program.as_str())
+}
+
+fn asks_run(limit: u64, words: &[String]) -> Option<Asked<'_>>
+    requires { limit ≤ 100000000 }
+    ensures command { option_map command_of result ≡ run_words limit (map string_bytes words.now) }
+    ensures few { IfSome result IsFew }
+{
+    let (program, rest) = words.split_first()?;
+    let (input, rest) = rest.split_first()?;
+    if !rest.is_empty() || !(may_be_operand(program.as_str()) && may_be_operand(input.as_str())) {
+        return None;
+    }
+    Some(Asked::Run(limit, program.as_str(), input.as_str()))
+}
+
+fn asks_cover(limit: u64, words: &[String]) -> Option<Asked<'_>>
+    requires { limit ≤ 100000000 }
+    ensures command { option_map command_of result ≡ cover_words limit (map string_bytes words.now) }
+    ensures few { IfSome result IsFew }
+{
+    let (program, inputs) = words.split_first()?;
+    if inputs.is_empty() || inputs.len() > INPUTS_MOST {
+        return None;
+    }
+    if !may_be_operands(words) {
+        return None;
+    }
+    Some(Asked::Cover(limit, program.as_str(), inputs))
+}
+
+fn may_be_operands(words: &[String]) -> bool
+    ensures { result ≡ are_operands (map string_bytes words.now) }
+{
+    for word in words {
+        if !may_be_operand(word.as_str()) {
+            return false;
+        }
+    }
+    true
 }

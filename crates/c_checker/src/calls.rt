@@ -10,6 +10,7 @@ ghost use Rattle.c_tables.specs.Rows.{row};
 ghost use Rattle.c_checker.specs.CheckerView.{state_of};
 ghost use Rattle.c_checker.specs.SortView.{sort_of, typing_of};
 ghost use Rattle.c_checker.specs.CallView.{given_of};
+ghost use Rattle.c_tree.specs.Complaints.{wrong_type};
 
 use crate::checker::Checker;
 use crate::functions::copies;
@@ -18,6 +19,7 @@ use crate::sort::{Sort, Typing, copied};
 use c_base::place::{NoMemory, Pos};
 use c_constants::constants::Constant;
 use c_syntax::tree::CType;
+use c_tree::complaints::{UNDEFINED, UNKNOWN_NAME, WRONG_ARG_COUNT, WRONG_TYPE};
 use c_tree::meaning::Entity;
 use c_type_rules::judged::Operand;
 use c_type_rules::kinds::copy;
@@ -57,7 +59,7 @@ impl Checker {
         match self.names.find(name) {
             Some(Entity::Function(n)) => {
                 let counts = self.counts(n);
-                self.demand(counts, 40, self.at, pos)?;
+                self.demand(counts, UNDEFINED, self.at, pos)?;
                 Ok(Some(n))
             }
             Some(Entity::Builtin(builtin)) => {
@@ -66,7 +68,7 @@ impl Checker {
             }
             Some(Entity::Unknown) => Ok(None),
             _ => {
-                self.complain(30, self.at, pos)?;
+                self.complain(UNKNOWN_NAME, self.at, pos)?;
                 Ok(None)
             }
         }
@@ -133,7 +135,7 @@ impl Checker {
         ensures { OnOk result (state_of self.new ≡ judged token pos clean (map type_of params.now) (map given_of given.now) (state_of self.old)) }
     {
         if clean && params.len() != given.len() {
-            self.complain(34, token, pos)
+            self.complain(WRONG_ARG_COUNT, token, pos)
         } else {
             self.fit_all(params, given)
         }
@@ -154,7 +156,7 @@ impl Checker {
 
     // The argument fits into the parameter.
     fn fit(&mut self, param: &CType, given: &Given) -> Result<(), NoMemory>
-        ensures { OnOk result (state_of self.new ≡ rule (by 33 (fits_type (Some (type_of param.now)) (type_in given.now.kind) given.now.null)) given.now.token given.now.pos (state_of self.old)) }
+        ensures { OnOk result (state_of self.new ≡ rule (by wrong_type (fits_type (Some (type_of param.now)) (type_in given.now.kind) given.now.null)) given.now.token given.now.pos (state_of self.old)) }
     {
         let to = copy(param, self.alloc)?;
         let kind = copied(&given.kind, self.alloc)?;
@@ -162,7 +164,11 @@ impl Checker {
             kind,
             null: given.null,
         };
-        self.rule(by(33, fits(Some(to), value)), given.token, given.pos)?;
+        self.rule(
+            by(WRONG_TYPE, fits(Some(to), value)),
+            given.token,
+            given.pos,
+        )?;
         Ok(())
     }
 }

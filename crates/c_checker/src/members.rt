@@ -16,6 +16,7 @@ use c_base::place::{NoMemory, Pos};
 use c_constants::constants::Constant;
 use c_constants::places;
 use c_syntax::tree::CType;
+use c_tree::complaints::{UNKNOWN_FIELD, WRONG_TYPE};
 use c_type_rules::kinds::copy;
 use c_type_rules::single;
 
@@ -33,7 +34,7 @@ impl Checker {
         ensures state { OnOk result (state_of self.new ≡ (typed_field token op_pos dot name.now pos (sort_of a) (state_of self.old)).state) }
     {
         let constant = places::field(a.constant);
-        let held = self.rule(by(33, single::structure(a.kind)), token, op_pos)?;
+        let held = self.rule(by(WRONG_TYPE, single::structure(a.kind)), token, op_pos)?;
         let ruling = self.field_rule(name, held)?;
         self.step();
         self.held_field(pos, ruling, constant)
@@ -51,7 +52,10 @@ impl Checker {
         ensures typing { IfOk result (λ t. typing_of t ≡ (typed_field token op_pos arrow name.now pos (sort_of a) (state_of self.old)).typing) }
         ensures state { OnOk result (state_of self.new ≡ (typed_field token op_pos arrow name.now pos (sort_of a) (state_of self.old)).state) }
     {
-        let ruling = complete(by(33, single::pointed_structure(a.kind)), &self.rooms);
+        let ruling = complete(
+            by(WRONG_TYPE, single::pointed_structure(a.kind)),
+            &self.rooms,
+        );
         let held = self.rule(ruling, token, op_pos)?;
         let ruling = self.field_rule(name, held)?;
         self.step();
@@ -65,7 +69,7 @@ impl Checker {
         match held {
             Some(CType::Struct(n)) => match self.field(n, name) {
                 Some(kind) => Ok(Ruling::Allowed(copy(kind, self.alloc)?)),
-                None => Ok(Ruling::Refused(41)),
+                None => Ok(Ruling::Refused(UNKNOWN_FIELD)),
             },
             _ => Ok(Ruling::Unsettled),
         }

@@ -22,6 +22,7 @@ use c_constants::numbers::number_of;
 use c_syntax::text::Text;
 use c_syntax::tree::CType;
 use c_tables::tables::LiteralRow;
+use c_tree::complaints::{TOO_LARGE_TYPE, UNKNOWN_NAME, WRONG_TYPE};
 use c_tree::meaning::Entity;
 use c_type_rules::extent::Measured;
 use c_type_rules::kinds::{boxed, copy};
@@ -40,7 +41,7 @@ impl Checker {
                 Ok(Typing::plainly(Sort::value(kind, number.constant())))
             }
             None => {
-                self.complain(33, self.at, pos)?;
+                self.complain(WRONG_TYPE, self.at, pos)?;
                 self.step();
                 Ok(Typing::plainly(Sort::none()))
             }
@@ -114,7 +115,7 @@ impl Checker {
         ensures typing { IfOk result (λ t. typing_of t ≡ (named_parameter pos None (state_of self.old)).typing) }
         ensures state { OnOk result (state_of self.new ≡ (named_parameter pos None (state_of self.old)).state) }
     {
-        self.complain(30, self.at, pos)?;
+        self.complain(UNKNOWN_NAME, self.at, pos)?;
         self.step();
         Ok(Typing::plainly(Sort::none()))
     }
@@ -168,7 +169,7 @@ fn string_ruling(text: &Text, rooms: &[Measured], alloc: Global) -> Result<Rulin
 {
     let length = text.len();
     if length >= 1_048_576 {
-        return Ok(Ruling::Refused(42));
+        return Ok(Ruling::Refused(TOO_LARGE_TYPE));
     }
     let of = boxed(CType::Int(IntKind::Char), alloc)?;
     Ok(whole(CType::Array(of, length + 1), rooms))

@@ -20,6 +20,7 @@ use c_base::place::{NoMemory, Pos};
 use c_constants::constants::Constant;
 use c_constants::operators as constants;
 use c_syntax::tree::{BinaryOp, CType, UnaryOp};
+use c_tree::complaints::WRONG_TYPE;
 use c_type_rules::{choosing, operators as kinds, single, storing};
 
 impl Checker {
@@ -80,13 +81,18 @@ impl Checker {
         match op {
             UnaryOp::AddressOf => self.typed_address(token, op_pos, first, pos, a),
             UnaryOp::Deref => {
-                let ruling = object(by(33, single::target(a.kind)), &self.rooms);
+                let ruling = object(by(WRONG_TYPE, single::target(a.kind)), &self.rooms);
                 self.to_place(ruling, token, op_pos, Constant::No)
             }
-            UnaryOp::Not => self.to_value(by(33, choosing::truth(a.kind)), token, op_pos, constant),
+            UnaryOp::Not => self.to_value(
+                by(WRONG_TYPE, choosing::truth(a.kind)),
+                token,
+                op_pos,
+                constant,
+            ),
             UnaryOp::Plus | UnaryOp::Minus | UnaryOp::Flip => {
                 self.to_value(
-                    by(33, single::promoted_value(a.kind)),
+                    by(WRONG_TYPE, single::promoted_value(a.kind)),
                     token,
                     op_pos,
                     constant,
@@ -110,7 +116,7 @@ impl Checker {
         let constant = constants::unary(UnaryOp::AddressOf, a.constant);
         let kind = self.rule(a.changeable(), first, pos)?;
         let judged = single::address(kind, self.alloc)?;
-        self.to_value(by(33, judged), token, op_pos, constant)
+        self.to_value(by(WRONG_TYPE, judged), token, op_pos, constant)
     }
 
     /// `++` or `--` at the first of the two tokens, before or behind an operand that begins at the other one (C89, 3.3.2.4
@@ -127,7 +133,7 @@ impl Checker {
         ensures state { OnOk result (state_of self.new ≡ (typed_step token op_pos first pos (sort_of a) (state_of self.old)).state) }
     {
         let kind = self.rule(a.changeable(), first, pos)?;
-        let ruling = moved(by(33, storing::stepped(kind)), &self.rooms);
+        let ruling = moved(by(WRONG_TYPE, storing::stepped(kind)), &self.rooms);
         self.to_value(ruling, token, op_pos, Constant::No)
     }
 
@@ -189,7 +195,12 @@ impl Checker {
         ensures state { OnOk result (state_of self.new ≡ (typed_cast token op_pos (type_in kind) (sort_of a) (state_of self.old)).state) }
     {
         let constant = cast_constant(&kind, a.constant);
-        self.to_value(by(33, single::cast(kind, a.kind)), token, op_pos, constant)
+        self.to_value(
+            by(WRONG_TYPE, single::cast(kind, a.kind)),
+            token,
+            op_pos,
+            constant,
+        )
     }
 
     /// An operator between two operands that are both evaluated (C89, 3.3.5 to 3.3.12).
@@ -206,7 +217,7 @@ impl Checker {
     {
         let constant = constants::binary(op, left.constant, right.constant);
         let judged = kinds::binary(op, left.operand(), right.operand());
-        let ruling = moved(by(33, judged), &self.rooms);
+        let ruling = moved(by(WRONG_TYPE, judged), &self.rooms);
         self.to_value(ruling, token, op_pos, constant)
     }
 
@@ -223,7 +234,7 @@ impl Checker {
     {
         let constant = constants::both(left.constant, right.constant);
         self.to_value(
-            by(33, choosing::logical(left.kind, right.kind)),
+            by(WRONG_TYPE, choosing::logical(left.kind, right.kind)),
             token,
             op_pos,
             constant,
@@ -243,7 +254,7 @@ impl Checker {
     {
         let constant = constants::either(left.constant, right.constant);
         self.to_value(
-            by(33, choosing::logical(left.kind, right.kind)),
+            by(WRONG_TYPE, choosing::logical(left.kind, right.kind)),
             token,
             op_pos,
             constant,
@@ -267,12 +278,12 @@ impl Checker {
         let kind = self.rule(left.left_side(&right), first, pos)?;
         match op {
             None => {
-                let ruling = by(33, storing::fits(kind, right.operand()));
+                let ruling = by(WRONG_TYPE, storing::fits(kind, right.operand()));
                 self.to_value(ruling, token, op_pos, Constant::No)
             }
             Some(op) => {
                 let judged = storing::compound(op, kind, right.kind);
-                let ruling = moved(by(33, judged), &self.rooms);
+                let ruling = moved(by(WRONG_TYPE, judged), &self.rooms);
                 self.to_value(ruling, token, op_pos, Constant::No)
             }
         }
@@ -301,7 +312,7 @@ impl Checker {
     {
         let constant = constants::choice(test.constant, second.constant, third.constant);
         let judged = choosing::conditional(test.kind, second.operand(), third.operand());
-        self.to_value(by(33, judged), token, op_pos, constant)
+        self.to_value(by(WRONG_TYPE, judged), token, op_pos, constant)
     }
 
     /// `a[b]`, behind which the closing bracket stands (C89, 3.3.2.1).
@@ -317,7 +328,7 @@ impl Checker {
     {
         let constant = element_constant(&left.kind, left.constant, &right.kind, right.constant);
         let judged = single::element(left.kind, right.kind);
-        let ruling = object(by(33, judged), &self.rooms);
+        let ruling = object(by(WRONG_TYPE, judged), &self.rooms);
         let typing = self.to_place(ruling, token, op_pos, constant)?;
         self.step();
         Ok(typing)

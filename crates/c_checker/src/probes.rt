@@ -11,6 +11,7 @@ ghost use Rattle.c_checker.specs.CheckerView.{state_of};
 ghost use Rattle.c_checker.specs.RulingView.{ruled_of};
 ghost use Rattle.c_checker.specs.SortView.{sort_of, typing_of};
 ghost use Rattle.c_checker.specs.ProbeView.{probing_of};
+ghost use Rattle.c_tree.specs.Complaints.{wrong_type};
 
 use crate::checker::{Checker, Seen};
 use crate::ruling::{Ruling, allowed_if, by};
@@ -19,6 +20,7 @@ use c_base::place::{NoMemory, Pos};
 use c_constants::places;
 use c_constants::probes::probe_number;
 use c_syntax::tree::CType;
+use c_tree::complaints::{STRAY, WRONG_TYPE};
 use c_type_rules::kinds::{decayed, is_scalar};
 use c_type_rules::storing;
 
@@ -71,7 +73,7 @@ impl Checker {
     {
         match (probe_number(spelled), self.seen.find(probing, spelled)) {
             (Some(number), None) => self.seen.add(probing, spelled, number),
-            _ => self.complain(37, token, pos),
+            _ => self.complain(STRAY, token, pos),
         }
     }
 
@@ -121,24 +123,24 @@ fn block_rule(kind: Option<CType>) -> Ruling
 
 // A scalar, as a value.
 fn test_rule(kind: Option<CType>) -> Ruling
-    ensures { ruled_of result ≡ then_rule (by 33 (truth_type (type_in kind))) (λ t. of_kind (type_in kind) as_decayed) }
+    ensures { ruled_of result ≡ then_rule (by wrong_type (truth_type (type_in kind))) (λ t. of_kind (type_in kind) as_decayed) }
 {
     match kind {
         None => Ruling::Unsettled,
         Some(kind) => {
             let kind = decayed(kind);
             let tested = is_scalar(&kind);
-            allowed_if(tested, 33, kind)
+            allowed_if(tested, WRONG_TYPE, kind)
         }
     }
 }
 
 // A place of a scalar.
 fn place_rule(a: Sort) -> Ruling
-    ensures { ruled_of result ≡ then_rule (by 33 (scalar_type (sort_of a).kind)) (allowed_if (sort_of a).place 33) }
+    ensures { ruled_of result ≡ then_rule (by wrong_type (scalar_type (sort_of a).kind)) (allowed_if (sort_of a).place wrong_type) }
 {
-    match by(33, storing::scalar_place(a.kind)) {
-        Ruling::Allowed(kind) => allowed_if(a.place, 33, kind),
+    match by(WRONG_TYPE, storing::scalar_place(a.kind)) {
+        Ruling::Allowed(kind) => allowed_if(a.place, WRONG_TYPE, kind),
         other => other,
     }
 }

@@ -16,6 +16,7 @@ use c_base::place::{IntKind, NoMemory, Pos};
 use c_constants::constants::Constant;
 use c_constants::{operators, places};
 use c_syntax::tree::CType;
+use c_tree::complaints::{INCOMPLETE_TYPE, TOO_LARGE_TYPE, WRONG_TYPE};
 use c_type_rules::extent::Measured;
 use c_type_rules::judged::Judged;
 use c_type_rules::kinds::decayed;
@@ -108,8 +109,8 @@ pub fn whole(kind: CType, rooms: &[Measured]) -> Ruling
 {
     match measured(&kind, rooms) {
         Measured::Known(_) => Ruling::Allowed(kind),
-        Measured::Incomplete => Ruling::Refused(39),
-        Measured::TooLarge => Ruling::Refused(42),
+        Measured::Incomplete => Ruling::Refused(INCOMPLETE_TYPE),
+        Measured::TooLarge => Ruling::Refused(TOO_LARGE_TYPE),
     }
 }
 
@@ -149,7 +150,7 @@ fn completed(kind: CType, rooms: &[Measured]) -> Ruling
     ensures { ruled_of result ≡ complete (measures rooms.now) (type_of kind) }
 {
     match measured(&kind, rooms) {
-        Measured::Incomplete => Ruling::Refused(39),
+        Measured::Incomplete => Ruling::Refused(INCOMPLETE_TYPE),
         _ => Ruling::Allowed(kind),
     }
 }
@@ -172,7 +173,7 @@ fn moved_over(to: Box<CType>, rooms: &[Measured]) -> Ruling
         return Ruling::Allowed(CType::Pointer(to));
     }
     match measured(&to, rooms) {
-        Measured::Incomplete => Ruling::Refused(39),
+        Measured::Incomplete => Ruling::Refused(INCOMPLETE_TYPE),
         _ => Ruling::Allowed(CType::Pointer(to)),
     }
 }
@@ -183,7 +184,7 @@ pub fn settled_sized(kind: Option<CType>, rooms: &[Measured]) -> Ruling
 {
     match kind {
         None => Ruling::Unsettled,
-        Some(CType::Void) => Ruling::Refused(33),
+        Some(CType::Void) => Ruling::Refused(WRONG_TYPE),
         Some(kind) => whole(kind, rooms),
     }
 }

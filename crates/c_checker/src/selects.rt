@@ -16,6 +16,7 @@ use c_arith::convert;
 use c_base::place::{IntKind, NoMemory, Pos};
 use c_constants::constants::{Constant, value};
 use c_syntax::tree::CType;
+use c_tree::complaints::{NOT_CONSTANT, WRONG_TYPE};
 use c_type_rules::kinds::promoted;
 use indexmap::IndexSet;
 use std::alloc::Global;
@@ -32,7 +33,11 @@ impl Checker {
         ensures state { OnOk result (state_of self.new ≡ judged_constant token pos (sort_of a) (state_of self.old)) }
     {
         let value = value(a.constant);
-        self.rule(settled_if(value.is_some(), 35, a.kind), token, pos)?;
+        self.rule(
+            settled_if(value.is_some(), NOT_CONSTANT, a.kind),
+            token,
+            pos,
+        )?;
         Ok(value)
     }
 
@@ -73,10 +78,10 @@ fn select_rule(
             if differ(promoted(kind), values, alloc)? {
                 Ok(Ruling::Allowed(CType::Int(kind)))
             } else {
-                Ok(Ruling::Refused(33))
+                Ok(Ruling::Refused(WRONG_TYPE))
             }
         }
-        Some(_) => Ok(Ruling::Refused(33)),
+        Some(_) => Ok(Ruling::Refused(WRONG_TYPE)),
     }
 }
 

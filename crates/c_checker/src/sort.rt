@@ -12,6 +12,7 @@ use crate::ruling::{Ruling, settled_if};
 use c_base::place::NoMemory;
 use c_constants::constants::{Constant, is_null};
 use c_syntax::tree::{CType, Note};
+use c_tree::complaints::NOT_A_LEFT_SIDE;
 use c_type_rules::judged::Operand;
 use c_type_rules::kinds::copy;
 use std::alloc::Global;
@@ -85,7 +86,7 @@ impl Sort {
     pub fn changeable(self) -> Ruling
         ensures { ruled_of result ≡ changeable (sort_of self) }
     {
-        settled_if(self.place, 32, self.kind)
+        settled_if(self.place, NOT_A_LEFT_SIDE, self.kind)
     }
 
     /// The left side of an assignment is a place; nothing is said of it where a complaint stands inside the right one.

@@ -12,6 +12,7 @@ use c_checker::checker::Checker;
 use c_checker::ruling::settled_if;
 use c_checker::sort::Sort;
 use c_constants::constants::value;
+use c_tree::complaints::{DECLARED_TWICE, NOT_CONSTANT};
 use c_tree::meaning::Entity;
 
 /// The value that an enumerator is given, which begins at that token: a constant that an int has.
@@ -25,7 +26,11 @@ pub fn given_value(
     ensures state { OnOk result (state_of checker.new ≡ rule (value_rule (sort_of a)) token pos (state_of checker.old)) }
 {
     let value = only_int(value(a.constant));
-    checker.rule(settled_if(value.is_some(), 35, a.kind), token, pos)?;
+    checker.rule(
+        settled_if(value.is_some(), NOT_CONSTANT, a.kind),
+        token,
+        pos,
+    )?;
     Ok(value)
 }
 
@@ -41,7 +46,7 @@ pub fn next_value(
 {
     let value = only_int(next);
     let fits = next.is_none() || value.is_some();
-    checker.demand(fits, 35, token, pos)?;
+    checker.demand(fits, NOT_CONSTANT, token, pos)?;
     Ok(value)
 }
 
@@ -93,6 +98,6 @@ pub fn declare(
 {
     match checker.names.find_here(name) {
         None => checker.names.declare(name, entity),
-        Some(_) => checker.complain(31, token, pos),
+        Some(_) => checker.complain(DECLARED_TWICE, token, pos),
     }
 }

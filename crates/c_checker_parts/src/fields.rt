@@ -9,6 +9,7 @@ ghost use Rattle.c_checker.specs.CheckerView.{state_of};
 use c_base::place::{NoMemory, Pos};
 use c_checker::checker::Checker;
 use c_syntax::tree::{CType, Named};
+use c_tree::complaints::{DECLARED_TWICE, INCOMPLETE_TYPE, TOO_LARGE_TYPE};
 use c_type_rules::extent::Measured;
 use c_type_rules::layout::measured;
 
@@ -42,13 +43,13 @@ pub fn field_state(
 ) -> Result<(), NoMemory>
     ensures { OnOk result (state_of checker.new ≡ field_state token pos free (type_in kind.now) (state_of checker.old)) }
 {
-    checker.demand(free, 31, token, pos)?;
+    checker.demand(free, DECLARED_TWICE, token, pos)?;
     match kind {
         None => Ok(()),
         Some(kind) => match measured(kind, &checker.rooms) {
             Measured::Known(_) => Ok(()),
-            Measured::Incomplete => checker.complain(39, token, pos),
-            Measured::TooLarge => checker.complain(42, token, pos),
+            Measured::Incomplete => checker.complain(INCOMPLETE_TYPE, token, pos),
+            Measured::TooLarge => checker.complain(TOO_LARGE_TYPE, token, pos),
         },
     }
 }

@@ -15,6 +15,7 @@ use c_checker::ruling::settled_if;
 use c_checker::sort::Sort;
 use c_constants::constants::value;
 use c_syntax::tree::{CType, Star};
+use c_tree::complaints::NOT_CONSTANT;
 use c_type_rules::kinds::boxed;
 use std::alloc::Global;
 
@@ -38,7 +39,7 @@ pub fn judged_length(
 {
     let length = count_of(value(a.constant));
     let counted = is_count(length);
-    checker.rule(settled_if(counted, 35, a.kind), token, pos)?;
+    checker.rule(settled_if(counted, NOT_CONSTANT, a.kind), token, pos)?;
     Ok(length)
 }
 

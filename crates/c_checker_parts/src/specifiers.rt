@@ -10,6 +10,7 @@ use c_checker::ruling::{Ruling, settled};
 use c_constants::words::{Base, Words};
 use c_syntax::token::Key;
 use c_syntax::tree::CType;
+use c_tree::complaints::WRONG_TYPE;
 
 /// The specifiers so far, and the type of the structure or enumeration among them.
 #[derive(Drop)]
@@ -52,7 +53,7 @@ impl Spelled {
             Base::Void => Ruling::Allowed(CType::Void),
             Base::Int(kind) => Ruling::Allowed(CType::Int(kind)),
             Base::Tagged => settled(self.tagged),
-            Base::Wrong => Ruling::Refused(33),
+            Base::Wrong => Ruling::Refused(WRONG_TYPE),
         }
     }
 }

@@ -11,6 +11,7 @@ use c_checker::checker::Checker;
 use c_syntax::text::Text;
 use c_syntax::tree::Named;
 use c_tables::tables::StructRow;
+use c_tree::complaints::{DECLARED_TWICE, UNKNOWN_NAME};
 use c_tree::meaning::Tag;
 use c_type_rules::extent::Measured;
 
@@ -74,7 +75,7 @@ fn twice(checker: &mut Checker, pos: Pos) -> Result<Option<u32>, NoMemory>
     ensures number { IfOk result (λ n. n ≡ (twice pos (state_of checker.old)).number) }
     ensures state { OnOk result (state_of checker.new ≡ (twice pos (state_of checker.old)).state) }
 {
-    checker.complain(31, checker.at, pos)?;
+    checker.complain(DECLARED_TWICE, checker.at, pos)?;
     Ok(None)
 }
 
@@ -154,7 +155,7 @@ fn listed_enumeration(checker: &mut Checker, tag: &Named) -> Result<(), NoMemory
 {
     match checker.tags.find_here(tag.text.bytes()) {
         None => checker.tags.declare(tag.text.bytes(), Tag::Enumeration),
-        Some(_) => checker.complain(31, checker.at, tag.pos),
+        Some(_) => checker.complain(DECLARED_TWICE, checker.at, tag.pos),
     }
 }
 
@@ -164,7 +165,7 @@ fn known_enumeration(checker: &mut Checker, tag: &Named) -> Result<(), NoMemory>
 {
     match checker.tags.find(tag.text.bytes()) {
         Some(Tag::Enumeration) => Ok(()),
-        Some(Tag::Structure(_)) => checker.complain(31, checker.at, tag.pos),
-        None => checker.complain(30, checker.at, tag.pos),
+        Some(Tag::Structure(_)) => checker.complain(DECLARED_TWICE, checker.at, tag.pos),
+        None => checker.complain(UNKNOWN_NAME, checker.at, tag.pos),
     }
 }

@@ -8,13 +8,13 @@ pub record Row : Type 0 where
 abbrev pub row : ℕ → List ℕ → Row
 row n name = record { number = n; name = name }
 
--- the lexer's, the parser's, and where a program is none yet
+-- the lexer's, the parser's, the checker's, and what comes behind these
 abbrev pub rows : List Row
 rows =
     row 1 (codes "BadByte") ∷ row 2 (codes "OpenComment") ∷ row 3 (codes "OpenQuote") ∷ row 4 (codes "BadEscape")
     ∷ row 5 (codes "BadNumber") ∷ row 6 (codes "BadDirective") ∷ row 7 (codes "MacroTwice")
     ∷ row 8 (codes "TooManyTokens") ∷ row 9 (codes "LeftOutWord")
-    ∷ row 20 (codes "Syntax") ∷ row 29 (codes "NotYet")
+    ∷ row 20 (codes "Syntax")
     ∷ row 30 (codes "UnknownName") ∷ row 31 (codes "DeclaredTwice") ∷ row 32 (codes "NotALeftSide")
     ∷ row 33 (codes "WrongType") ∷ row 34 (codes "WrongArgCount") ∷ row 35 (codes "NotConstant")
     ∷ row 36 (codes "CaseTwice") ∷ row 37 (codes "Stray") ∷ row 38 (codes "NoMain")

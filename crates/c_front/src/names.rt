@@ -18,7 +18,6 @@ pub fn name_of(number: u8) -> &'static str
         8 => "TooManyTokens",
         9 => "LeftOutWord",
         20 => "Syntax",
-        29 => "NotYet",
         30 => "UnknownName",
         31 => "DeclaredTwice",
         32 => "NotALeftSide",

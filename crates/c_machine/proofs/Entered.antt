@@ -6,7 +6,9 @@ use Rattle.c_store.specs.declared.value.Value.{Value}
 use Rattle.c_tables.specs.Tables.{TablesShape, tables_shape}
 use Rattle.c_tables.specs.Rows.{row}
 use Rattle.c_meaning.specs.State.{State}
-use Rattle.c_meaning.specs.Results.{Got, then_do, turn}
+use Rattle.c_meaning.specs.declared.end.Flow.{Flow}
+use Rattle.c_meaning.specs.declared.end.Flow.TheVariants.{Next}
+use Rattle.c_meaning.specs.Results.{Got, Gives, then_do, turn}
 use Rattle.c_meaning.specs.Firsts.{quiet}
 use Rattle.c_meaning.specs.Counts.{signature_variables}
 use Rattle.c_meaning.specs.Knot.{Knot}
@@ -42,3 +44,14 @@ pub called_then : (p : Program) (f : ℕ) (vs : List Value) (s : State) (go : Op
 called_then p f vs s go =
     sym (then_then (entered_flow (tables_shape p.tables) (knot_of p) f (routine (source_of p) silent f) vs s) (returned (result_in (row (tables_shape p.tables).functions f))) go)
     ∙ ap (λ r. then_do r go) (called_is p f vs s)
+
+-- ---- a function is entered, and then its body goes on
+
+pub begun_body : (t : TablesShape) (k : Knot) (ms : List ProbeMark) (d : DeclFormShape) (c : CompoundShape) (n : ℕ) (s : State)
+    → marks_log ms s (λ s. turn s (compound_flow t k c (quiet (n + signature_variables d)))) ≡ body_flow t k ms c (past_signature t d (quiet n)) s
+begun_body t k ms d c n s = body_marks t k ms c (n + signature_variables d) s ∙ ap (λ q. body_flow t k ms c q s) (sym (past_quiet t d n))
+
+pub entered_then : (t : TablesShape) (k : Knot) (f : ℕ) (o : Option Routine) (r : Routine) (vs : List Value) (s u : State) (go : Flow → State → Got (Option Value))
+    → o ≡ Some r → entered t f r vs s ≡ Gives Next u → then_do (body_flow t k r.marks r.body (past_signature t r.params r.first) u) go ≡ then_do (entered_flow t k f o vs s) go
+entered_then t k f o r vs s u go is e =
+    sym (ap (λ o. then_do (entered_flow t k f o vs s) go) is ∙ ap (λ g. then_do (then_do g (λ f. body_flow t k r.marks r.body (past_signature t r.params r.first))) go) e)

@@ -34,8 +34,9 @@ pub enum Ended {
     Stopped(Stop),
 }
 
-/// A run of a program over an input, with at most so many turns (C89, 2.1.2.2.1). The probes are told what it logs, in
-/// order; after an `Err` they were told a front of that.
+/// A run of a program over an input, with at most so many turns (C89, 2.1.2.2.1). The probes are told of each instance before
+/// its first event and behind its end, and in their order of the events that it logs; after an `Err` they were told a front of
+/// these.
 pub fn run<P: Probes>(
     alloc: Global,
     program: &Program,
@@ -44,8 +45,9 @@ pub fn run<P: Probes>(
     probes: &mut P,
 ) -> Result<RunEnd, NoMemory>
     requires { limit ≤ 1000000000 }
-    ensures run { IfOk result (λ r. (h : List Event) → P.stands_for probes.old h → (l : List Event) × P.stands_for probes.new (h ++ l) × (run (source_of program.now) input.now limit ≡ outcome_of r l)) }
-    ensures front { OnErr result ((h : List Event) → P.stands_for probes.old h → (l : List Event) × P.stands_for probes.new (h ++ l) × IsFront l (run (source_of program.now) input.now limit).log) }
+    ensures run { IfOk result (λ r. (l : List Event) × ((h : List Event) → P.stands_for probes.old h → P.stands_for probes.new (h ++ l)) × (run (source_of program.now) input.now limit ≡ outcome_of r l)) }
+    ensures front { OnErr result ((l : List Event) × ((h : List Event) → P.stands_for probes.old h → P.stands_for probes.new (h ++ l)) × IsFront l (run (source_of program.now) input.now limit).log) }
+    ensures goes_by { P.owners probes.new ≡ P.owners probes.old }
 {
     let plan = Plan::of(alloc, program)?;
     let mut world = World::new(alloc, program, input, limit)?;
@@ -94,10 +96,11 @@ fn run_main<'p, P: Probes>(
 ) -> Result<Ended, NoMemory>
     requires program { world.old.program.now ≡ plan.now.program.now }
     requires none { scope_counts world.old.names.calls ≡ [] }
-    ensures done { IfOk result (λ e. (h l : List Event) → P.stands_for probes.old (h ++ l) → (l' : List Event) × P.stands_for probes.new (h ++ l') × (main_called (source_of plan.now.program.now) silent (knot_of plan.now.program.now) (state_of world.old l) ≡ ended_as e (state_of world.new l'))) }
-    ensures front { OnErr result ((h l : List Event) → P.stands_for probes.old (h ++ l) → (l' : List Event) × P.stands_for probes.new (h ++ l') × Grown l' (main_called (source_of plan.now.program.now) silent (knot_of plan.now.program.now) (state_of world.old l))) }
+    ensures done { IfOk result (λ e. (l : List Event) → (l' : List Event) × ((h : List Event) → P.stands_for probes.old (h ++ l) → P.stands_for probes.new (h ++ l')) × (main_called (source_of plan.now.program.now) silent (knot_of plan.now.program.now) (state_of world.old l) ≡ ended_as e (state_of world.new l'))) }
+    ensures front { OnErr result ((l : List Event) → (l' : List Event) × ((h : List Event) → P.stands_for probes.old (h ++ l) → P.stands_for probes.new (h ++ l')) × Grown l' (main_called (source_of plan.now.program.now) silent (knot_of plan.now.program.now) (state_of world.old l))) }
     ensures told { OnOk result (world.new.pending.items ≡ []) }
     ensures same { OnOk result (Same world.old world.new) }
+    ensures goes_by { P.owners probes.new ≡ P.owners probes.old }
 {
     if let Some(why) = make_all(world, probes)? {
         return Ok(Ended::Stopped(why));
@@ -111,11 +114,12 @@ fn run_main<'p, P: Probes>(
 
 // The string literals and the objects of file scope (C89, 3.5.7).
 fn make_all<P: Probes>(world: &mut World<'_>, probes: &mut P) -> Result<Option<Stop>, NoMemory>
-    ensures done { IfOk result (λ r. (h l : List Event) → P.stands_for probes.old (h ++ l) → (l' : List Event) × P.stands_for probes.new (h ++ l') × (all_made (source_of world.old.program.now) silent (state_of world.old l) ≡ answered r (state_of world.new l'))) }
-    ensures front { OnErr result ((h l : List Event) → P.stands_for probes.old (h ++ l) → (l' : List Event) × P.stands_for probes.new (h ++ l') × Grown l' (all_made (source_of world.old.program.now) silent (state_of world.old l))) }
+    ensures done { IfOk result (λ r. (l : List Event) → (l' : List Event) × ((h : List Event) → P.stands_for probes.old (h ++ l) → P.stands_for probes.new (h ++ l')) × (all_made (source_of world.old.program.now) silent (state_of world.old l) ≡ answered r (state_of world.new l'))) }
+    ensures front { OnErr result ((l : List Event) → (l' : List Event) × ((h : List Event) → P.stands_for probes.old (h ++ l) → P.stands_for probes.new (h ++ l')) × Grown l' (all_made (source_of world.old.program.now) silent (state_of world.old l))) }
     ensures told { OnOk result (world.new.pending.items ≡ []) }
     ensures same { OnOk result (Same world.old world.new) }
     ensures calls { OnOk result (world.new.names.calls ≡ world.old.names.calls) }
+    ensures goes_by { P.owners probes.new ≡ P.owners probes.old }
 {
     let made = world.begin()?;
     tell(world, probes)?;
@@ -132,10 +136,11 @@ fn call<'p, P: Probes>(
 ) -> Result<Ended, NoMemory>
     requires program { world.old.program.now ≡ plan.now.program.now }
     requires none { scope_counts world.old.names.calls ≡ [] }
-    ensures done { IfOk result (λ e. (h l : List Event) → P.stands_for probes.old (h ++ l) → (l' : List Event) × P.stands_for probes.new (h ++ l') × ((knot_of plan.now.program.now).call function [] (state_of world.old l) ≡ ended_as e (state_of world.new l'))) }
-    ensures front { OnErr result ((h l : List Event) → P.stands_for probes.old (h ++ l) → (l' : List Event) × P.stands_for probes.new (h ++ l') × Grown l' ((knot_of plan.now.program.now).call function [] (state_of world.old l))) }
+    ensures done { IfOk result (λ e. (l : List Event) → (l' : List Event) × ((h : List Event) → P.stands_for probes.old (h ++ l) → P.stands_for probes.new (h ++ l')) × ((knot_of plan.now.program.now).call function [] (state_of world.old l) ≡ ended_as e (state_of world.new l'))) }
+    ensures front { OnErr result ((l : List Event) → (l' : List Event) × ((h : List Event) → P.stands_for probes.old (h ++ l) → P.stands_for probes.new (h ++ l')) × Grown l' ((knot_of plan.now.program.now).call function [] (state_of world.old l))) }
     ensures told { OnOk result (world.new.pending.items ≡ []) }
     ensures same { OnOk result (Same world.old world.new) }
+    ensures goes_by { P.owners probes.new ≡ P.owners probes.old }
 {
     let begun = Machine::begin_run(alloc, plan, world, function)?;
     tell(world, probes)?;
@@ -158,10 +163,11 @@ fn follow<'p, P: Probes>(
 ) -> Result<Ended, NoMemory>
     requires program { world.old.program.now ≡ plan.now.program.now }
     requires tied { Tied machine.old world.old }
-    ensures done { IfOk result (λ e. (h l : List Event) → P.stands_for probes.old (h ++ l) → (l' : List Event) × P.stands_for probes.new (h ++ l') × (left_in (tables_shape plan.now.program.now.tables) (knot_of plan.now.program.now) machine.old (state_of world.old l) ≡ ended_as e (state_of world.new l'))) }
-    ensures front { OnErr result ((h l : List Event) → P.stands_for probes.old (h ++ l) → (l' : List Event) × P.stands_for probes.new (h ++ l') × Grown l' (left_in (tables_shape plan.now.program.now.tables) (knot_of plan.now.program.now) machine.old (state_of world.old l))) }
+    ensures done { IfOk result (λ e. (l : List Event) → (l' : List Event) × ((h : List Event) → P.stands_for probes.old (h ++ l) → P.stands_for probes.new (h ++ l')) × (left_in (tables_shape plan.now.program.now.tables) (knot_of plan.now.program.now) machine.old (state_of world.old l) ≡ ended_as e (state_of world.new l'))) }
+    ensures front { OnErr result ((l : List Event) → (l' : List Event) × ((h : List Event) → P.stands_for probes.old (h ++ l) → P.stands_for probes.new (h ++ l')) × Grown l' (left_in (tables_shape plan.now.program.now.tables) (knot_of plan.now.program.now) machine.old (state_of world.old l))) }
     ensures told { OnOk result (world.new.pending.items ≡ []) }
     ensures same { OnOk result (Same world.old world.new) }
+    ensures goes_by { P.owners probes.new ≡ P.owners probes.old }
 {
     loop {
         let step = machine.step(plan, world)?;
@@ -177,12 +183,13 @@ fn follow<'p, P: Probes>(
 // Tells what is pending.
 #[inline(always)]
 fn tell<P: Probes>(world: &mut World<'_>, probes: &mut P) -> Result<(), NoMemory>
-    ensures told { OnOk result ((h l : List Event) → P.stands_for probes.old (h ++ l) → (l' : List Event) × P.stands_for probes.new (h ++ l') × (state_of world.new l' ≡ state_of world.old l)) }
-    ensures front { OnErr result ((h l : List Event) → P.stands_for probes.old (h ++ l) → (l' : List Event) × P.stands_for probes.new (h ++ l') × IsFront l' (state_of world.old l).log) }
+    ensures told { OnOk result ((l : List Event) → (l' : List Event) × ((h : List Event) → P.stands_for probes.old (h ++ l) → P.stands_for probes.new (h ++ l')) × (state_of world.new l' ≡ state_of world.old l)) }
+    ensures front { OnErr result ((l : List Event) → (l' : List Event) × ((h : List Event) → P.stands_for probes.old (h ++ l) → P.stands_for probes.new (h ++ l')) × IsFront l' (state_of world.old l).log) }
     ensures empty { OnOk result (world.new.pending.items ≡ []) }
     ensures same { OnOk result (Same world.old world.new) }
     ensures names { OnOk result (world.new.names ≡ world.old.names) }
     ensures turns { OnOk result (world.new.turns ≡ world.old.turns) }
+    ensures goes_by { P.owners probes.new ≡ P.owners probes.old }
 {
     world.tell(probes)?;
     Ok(())

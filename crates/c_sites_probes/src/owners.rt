@@ -1,31 +1,15 @@
 //! The owners of use probes.
 
-ghost use Rattle.std.specs.Prelude.{◌≡◌, ℕ, ◌++◌, List, [], ◌∷◌, length, slice_get, Some, IfOk};
+ghost use Rattle.std.specs.Prelude.{◌≡◌, ℕ, ◌++◌, List, [], ◌∷◌, length, IfOk};
 ghost use Rattle.c_syntax.specs.View.{unit_shape};
 ghost use Rattle.c_sites_probes.specs.Owned.{owned_in};
 ghost use Rattle.c_sites_probes.specs.Owners.{AreOwners};
 
 use crate::owned::{Owned, owned_in};
 use c_base::place::NoMemory;
+use c_events::owners::Owners;
 use c_tree::program::Program;
 use std::alloc::Global;
-
-/// The owner of each use probe of a program: the innermost test or select probe around it.
-#[derive(Drop)]
-pub struct Owners {
-    rows: Vec<Option<u16>>,
-    ghost whole: { length rows.items ≡ 65536 },
-}
-
-impl Owners {
-    /// The number of the owner of the use probe with that number; None where no test or select probe stands around it, or
-    /// there is no such use probe.
-    pub fn of(&self, u: u16) -> Option<u16>
-        ensures { slice_get self.now.rows.items u ≡ Some result }
-    {
-        self.rows[u as usize]
-    }
-}
 
 // No owner.
 fn no_rows(alloc: Global) -> Result<Vec<Option<u16>>, NoMemory>
@@ -52,19 +36,21 @@ fn put_owner(rows: &mut Vec<Option<u16>>, number: u16, owner: u16)
 
 // These owners, the first one of each use probe.
 fn owners_of(alloc: Global, found: &[Owned]) -> Result<Owners, NoMemory>
-    ensures { IfOk result (λ o. AreOwners found.now o.rows.items) }
+    ensures whole { IfOk result (λ o. length o ≡ 65536) }
+    ensures owners { IfOk result (λ o. AreOwners found.now o) }
 {
     let mut rows = no_rows(alloc)?;
     for owned in found {
         let (number, owner) = *owned;
         put_owner(&mut rows, number, owner);
     }
-    Ok(Owners { rows })
+    Ok(Owners::new(rows))
 }
 
 /// For each use probe of a program its owner. It takes one walk over the program's tree.
 pub fn probe_owners(alloc: Global, program: &Program) -> Result<Owners, NoMemory>
-    ensures { IfOk result (λ o. AreOwners (owned_in (unit_shape program.now.unit)) o.rows.items) }
+    ensures whole { IfOk result (λ o. length o ≡ 65536) }
+    ensures owners { IfOk result (λ o. AreOwners (owned_in (unit_shape program.now.unit)) o) }
 {
     let found = owned_in(alloc, program.unit())?;
     owners_of(alloc, &found)

@@ -20,6 +20,7 @@ use Rattle.c_tree.specs.Units.{specs_place, begun_function, ended_function, Type
 use Rattle.c_type_rules.specs.Verdicts.{result_type}
 use Rattle.c_syntax.specs.declared.tree.ProbeMark.{ProbeMark}
 use Rattle.c_tree.proofs.Again.{chain, node_again, pos_again, specs_again, lengths_again}
+use Rattle.c_tree.specs.Complaints.{wrong_type}
 
 -- INITIALISERS
 
@@ -385,7 +386,7 @@ abbrev defined_of : TypedSpecs → TypedFunction → List ProbeMark → TypedCom
 defined_of t f marks b = record { external = defined t.specs f.name marks b.compound; state = ended_function b.state }
 
 abbrev body_result : List Star → TypedSpecs → Option TypeOf
-body_result stars t = kind_at (by 33 (result_type (pointed stars (kind_at (spelled_rule t.spelled)))))
+body_result stars t = kind_at (by wrong_type (result_type (pointed stars (kind_at (spelled_rule t.spelled)))))
 
 abbrev surrounded : Option TypeOf → Surroundings
 surrounded k = record { loop = false; breakable = false; result = k }

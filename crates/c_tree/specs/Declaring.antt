@@ -24,6 +24,7 @@ use Rattle.c_tree.specs.Operators.{claim}
 use Rattle.c_tree.specs.Parts.{Length, counted, left_out, unclear, TypedLengths, pointed, star_tokens, arrays_of, unspelled, spelled_rule, with_name}
 use Rattle.c_tree.specs.Initialisers.{lengths_with, TypedInit, type_init}
 use Rattle.c_tree.specs.Typing.{type_specs, type_lengths}
+use Rattle.c_tree.specs.Complaints.{declared_twice, incomplete_type, stray, too_large_type, wrong_type}
 
 -- ---- declared names
 
@@ -39,7 +40,7 @@ name_tokens (Some x) = 1 + probe_tokens 5 x.probe
 -- a probe round a name, at its word: its number, and whether one may stand there
 abbrev pub claim_mark : Bool → Option ProbeMark → State → State
 claim_mark fits None s = s
-claim_mark fits (Some m) s = demand fits 37 s.at m.pos (claim def m.number s.at m.pos s)
+claim_mark fits (Some m) s = demand fits stray s.at m.pos (claim def m.number s.at m.pos s)
 
 abbrev pub claim_name : Bool → Option Named → State → State
 claim_name fits None s = s
@@ -64,7 +65,7 @@ with_variable x (Some t) s = with_name x (entity.Variable (next_variable s)) (wi
 
 abbrev pub variable_at : ℕ → Pos → Text → Option TypeOf → Option Entity → State → State
 variable_at token p x k None s = with_variable x k s
-variable_at token p x k (Some e) s = complain 31 token p s
+variable_at token p x k (Some e) s = complain declared_twice token p s
 
 abbrev pub declare_variable : ℕ → Pos → Text → Option TypeOf → State → State
 declare_variable token p x k s = variable_at token p x k (find_here x s.names) s
@@ -82,7 +83,7 @@ any_left_out (l ∷ ls) = any_left_out ls
 -- the type with its lengths; each must be there
 abbrev pub with_lengths : List Length → TypeOf → Ruled
 with_lengths ls t =
-    if any_unclear ls then unsettled else if any_left_out ls then refused 39 else of_kind (arrays_of ls (Some t)) allowed
+    if any_unclear ls then unsettled else if any_left_out ls then refused incomplete_type else of_kind (arrays_of ls (Some t)) allowed
 
 abbrev pub room_rule : List Measure → Ruled → Ruled
 room_rule rooms (allowed t) = whole rooms t
@@ -142,7 +143,7 @@ with_parameter x (Some t) s = with_name x (entity.Parameter (length s.params + 1
 
 abbrev pub parameter_at : ℕ → Pos → Text → Option TypeOf → Option Entity → State → State
 parameter_at token p x k None s = with_parameter x k s
-parameter_at token p x k (Some e) s = complain 31 token p s
+parameter_at token p x k (Some e) s = complain declared_twice token p s
 
 -- a parameter without a name declares nothing
 abbrev pub declare_parameter : ℕ → Option Named → Option TypeOf → State → State
@@ -153,7 +154,7 @@ declare_parameter token (Some x) k s = parameter_at token x.pos x.text k (find_h
 abbrev pub by_element : Measure → TypeOf → Ruled
 by_element (known e) t = allowed (pointer t)
 by_element incomplete t = allowed (pointer t)
-by_element too_large t = refused 42
+by_element too_large t = refused too_large_type
 
 abbrev pub element_pointer : List Measure → TypeOf → Ruled
 element_pointer rooms t = by_element (measure rooms t) t
@@ -165,7 +166,7 @@ element_lengths rooms (unclear ∷ ls) t = unsettled
 element_lengths rooms (l ∷ ls) t = then_rule (with_lengths ls t) (element_pointer rooms)
 
 abbrev pub scalar_rule : Ruled → Ruled
-scalar_rule (allowed t) = by 33 (parameter_type (Some t))
+scalar_rule (allowed t) = by wrong_type (parameter_type (Some t))
 scalar_rule r = r
 
 abbrev pub parameter_rule : List Measure → List Length → Option TypeOf → Ruled
@@ -173,7 +174,7 @@ parameter_rule rooms ls k = scalar_rule (of_kind k (element_lengths rooms ls))
 
 -- a parameter of a definition has a name
 abbrev pub name_demand : Bool → Option Named → ℕ → Pos → State → State
-name_demand true None first p s = complain 37 first p s
+name_demand true None first p s = complain stray first p s
 name_demand _ x first p s = s
 
 -- defining: the list is a definition's
@@ -198,7 +199,7 @@ type_param_list defining (more_decls (decl p specs (more_declarators (declarator
     let a = type_param defining p specs stars x ls i s in
     one_param x a (type_param_list defining rest (step a.state))
 type_param_list defining (more_decls d rest) s =
-    let r = type_param_list defining rest (step (complain 33 s.at first_place s)) in
+    let r = type_param_list defining rest (step (complain wrong_type s.at first_place s)) in
     record r { params = more_decls d r.params }
 
 pub record TypedSignature : Type 0 where
@@ -278,12 +279,12 @@ is_defined _ s = true
 
 abbrev pub function_at : Bool → ℕ → Pos → Text → Entity → Option Entity → State → State
 function_at defining token p x e None s = with_name x e s
-function_at defining token p x e (Some o) s = demand (same_function e o && not (defining && is_defined e s)) 31 token p s
+function_at defining token p x e (Some o) s = demand (same_function e o && not (defining && is_defined e s)) declared_twice token p s
 
 -- a function of an unclear type, which is equal to every other
 abbrev pub unclear_at : Bool → ℕ → Pos → Text → Option Entity → State → State
 unclear_at defining token p x None s = with_name x entity.Unknown s
-unclear_at defining token p x (Some o) s = demand (names_function o && not (defining && is_defined o s)) 31 token p s
+unclear_at defining token p x (Some o) s = demand (names_function o && not (defining && is_defined o s)) declared_twice token p s
 
 -- its body is one of each function of that name
 abbrev pub with_body : Text → FunctionShape → FunctionShape
@@ -332,7 +333,7 @@ type_function defining k stars x ps i s =
     let begun = steps (star_tokens stars) s in
     let token = token_of_name begun.at x begun in
     let p = name_pos first_place x in
-    let r = by 33 (result_type (pointed stars k)) in
+    let r = by wrong_type (result_type (pointed stars k)) in
     let q = type_params defining ps (record (opened_scope (steps (name_tokens x) (claim_name false x begun))) { file = false }) in
     let f = signature_of (kind_at r) (all_kinds q.given) in
     let d = declare_function defining token p (text_of x) f (record (rule r token p (closed_params defining q.state)) { file = s.file }) in

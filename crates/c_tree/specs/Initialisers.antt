@@ -13,6 +13,7 @@ use Rattle.c_tree.specs.Sorts.{Sort, TypedNode, null, pos_in}
 use Rattle.c_tree.specs.Operators.{hushed, heard}
 use Rattle.c_tree.specs.Parts.{Length, counted, left_out}
 use Rattle.c_tree.specs.Typing.{type_node}
+use Rattle.c_tree.specs.Complaints.{not_constant, wrong_type}
 
 -- ---- what an array takes its length from
 
@@ -68,16 +69,16 @@ form_in (node p o n f) = f
 abbrev pub string_init : ℕ → ℕ → Pos → ℕ → Bool → TypedNode → TypedInit
 string_init bytes elements p token quiet a = record {
   init = one a.node;
-  state = rule (allowed_if (nat_le bytes elements) 33 (int Char)) token p (heard quiet a.state);
+  state = rule (allowed_if (nat_le bytes elements) wrong_type (int Char)) token p (heard quiet a.state);
 }
 
 abbrev pub fits : Option TypeOf → Sort → Ruled
-fits k a = of_kind k (λ t. by 33 (fits_type (Some t) a.kind (null a)))
+fits k a = of_kind k (λ t. by wrong_type (fits_type (Some t) a.kind (null a)))
 
 -- outside of functions, and in lists
 abbrev pub constant_init : Bool → Sort → Ruled
 constant_init false a = unsettled
-constant_init true a = of_kind a.kind (λ t. allowed_if (constants.initialises t a.constant) 35 t)
+constant_init true a = of_kind a.kind (λ t. allowed_if (constants.initialises t a.constant) not_constant t)
 
 abbrev pub value_init : Bool → Option TypeOf → ℕ → Pos → TypedNode → TypedInit
 value_init c k token p a = record { init = one a.node; state = rule (constant_init c a.sort) token p (rule (fits k a.sort) token p a.state) }
@@ -107,7 +108,7 @@ slots (Some t) s = slots_in t s
 abbrev pub list_rule : TypeOf → Ruled
 list_rule (array t n) = allowed (array t n)
 list_rule (structure n) = allowed (structure n)
-list_rule t = refused 33
+list_rule t = refused wrong_type
 
 -- an item's type
 abbrev pub slot : Slots → Option TypeOf
@@ -119,8 +120,8 @@ slot anything = None
 
 -- an item too many is judged once
 abbrev pub slot_rule : Slots → Ruled
-slot_rule (repeated t zero) = refused 33
-slot_rule (these []) = refused 33
+slot_rule (repeated t zero) = refused wrong_type
+slot_rule (these []) = refused wrong_type
 slot_rule l = unsettled
 
 abbrev pub further : Slots → Slots

@@ -1,3 +1,4 @@
+pub mod Complaints
 pub mod State
 pub mod Rulings
 pub mod Sorts

@@ -29,6 +29,7 @@ use Rattle.c_tables.specs.Rows.{row}
 use Rattle.c_tree.specs.Rulings.{Ruled, allowed, unsettled, refused, by, then_rule, kind_at, rule, of_kind, allowed_if, whole, object, complete, moved, size_constant, sized, as_size, cast_constant, element_constant, comma_kind}
 use Rattle.c_tables.specs.Builtins.{builtin_name, builtin_result, builtin_params}
 use Rattle.c_tree.specs.Sorts.{Sort, no_sort, a_value, a_place, plainly, naming, valuing, Outcome, comes_to, null, changeable}
+use Rattle.c_tree.specs.Complaints.{not_constant, stray, undefined, unknown_field, unknown_name, wrong_arg_count, wrong_type}
 
 -- ---- constants and names
 
@@ -41,7 +42,7 @@ has_value None = false
 has_value (Some n) = true
 
 abbrev pub typed_number : Pos → Text → State → Outcome
-typed_number p t s = comes_to (plainly (number_sort (number_of t))) (step (demand (has_value (number_of t)) 33 s.at p s))
+typed_number p t s = comes_to (plainly (number_sort (number_of t))) (step (demand (has_value (number_of t)) wrong_type s.at p s))
 
 -- a character is an int
 abbrev pub typed_char : ℕ → State → Outcome
@@ -67,12 +68,12 @@ variable_constant owner = if nat_eq owner 0 then Variable else No
 
 -- a name that stands for a variable with this row
 abbrev pub named_variable : Pos → ℕ → Option VariableShape → State → Outcome
-named_variable p n None s = comes_to (plainly no_sort) (step (complain 30 s.at p s))
+named_variable p n None s = comes_to (plainly no_sort) (step (complain unknown_name s.at p s))
 named_variable p n (Some v) s = comes_to (naming (a_place (Some v.kind) (variable_constant v.function)) (Some n)) (step s)
 
 -- a name of a parameter, while the list is read
 abbrev pub named_parameter : Pos → Option TypeOf → State → Outcome
-named_parameter p None s = comes_to (plainly no_sort) (step (complain 30 s.at p s))
+named_parameter p None s = comes_to (plainly no_sort) (step (complain unknown_name s.at p s))
 named_parameter p (Some t) s = comes_to (plainly (a_place (Some t) No)) (step s)
 
 abbrev pub named_entity : Pos → Option Entity → State → Outcome
@@ -80,7 +81,7 @@ named_entity p (Some (entity.Variable n)) s = named_variable p n (row s.tables.v
 named_entity p (Some (entity.Parameter n)) s = named_parameter p (row s.params n) s
 named_entity p (Some (entity.Constant v)) s = comes_to (valuing (a_value (Some (int Int)) (Known Int v))) (step s)
 named_entity p (Some entity.Unknown) s = comes_to (plainly no_sort) (step s)
-named_entity p _ s = comes_to (plainly no_sort) (step (complain 30 s.at p s))
+named_entity p _ s = comes_to (plainly no_sort) (step (complain unknown_name s.at p s))
 
 abbrev pub typed_name : Pos → Text → State → Outcome
 typed_name p x s = named_entity p (find x s.names) s
@@ -93,7 +94,7 @@ pub record Called : Type 0 where
   pub state : State
 
 abbrev pub called_row : Pos → ℕ → State → Called
-called_row p n s = record { function = Some n; state = demand (counts s.known n) 40 s.at p s }
+called_row p n s = record { function = Some n; state = demand (counts s.known n) undefined s.at p s }
 
 abbrev pub called_builtin : Numbered → Called
 called_builtin n = record { function = Some n.number; state = n.state }
@@ -102,7 +103,7 @@ abbrev pub called_entity : Pos → Option Entity → State → Called
 called_entity p (Some (entity.Function n)) s = called_row p n s
 called_entity p (Some (entity.Builtin b)) s = called_builtin (mention (builtin_name b) (builtin_result b) (builtin_params b) s)
 called_entity p (Some entity.Unknown) s = record { function = None; state = s }
-called_entity p _ s = record { function = None; state = complain 30 s.at p s }
+called_entity p _ s = record { function = None; state = complain unknown_name s.at p s }
 
 abbrev pub called : Pos → Text → State → Called
 called p x s = called_entity p (find x s.names) s
@@ -121,11 +122,11 @@ given_at token p a = record { token = token; pos = p; kind = a.kind; null = null
 abbrev pub fit_all : List TypeOf → List Given → State → State
 fit_all [] gs s = s
 fit_all (t ∷ ts) [] s = s
-fit_all (t ∷ ts) (g ∷ gs) s = fit_all ts gs (rule (by 33 (fits_type (Some t) g.kind g.null)) g.token g.pos s)
+fit_all (t ∷ ts) (g ∷ gs) s = fit_all ts gs (rule (by wrong_type (fits_type (Some t) g.kind g.null)) g.token g.pos s)
 
 -- their number is judged where no complaint stands inside
 abbrev pub judged : ℕ → Pos → Bool → List TypeOf → List Given → State → State
-judged token p clean ts gs s = if clean && not (nat_eq (length ts) (length gs)) then complain 34 token p s else fit_all ts gs s
+judged token p clean ts gs s = if clean && not (nat_eq (length ts) (length gs)) then complain wrong_arg_count token p s else fit_all ts gs s
 
 abbrev pub call_of : Pos → ℕ → Bool → ℕ → Option FunctionShape → List Given → State → Outcome
 call_of p token clean n None gs s = comes_to (plainly no_sort) (step s)
@@ -143,10 +144,10 @@ typed_paren a s = comes_to (plainly a) (step s)
 
 -- & of a place; * of a pointer; the others of a value
 abbrev pub unary_rule : UnaryOp → List Measure → Sort → Ruled
-unary_rule front.AddressOf rooms a = by 33 (address_type (kind_at (changeable a)))
-unary_rule front.Deref rooms a = then_rule (by 33 (target_type a.kind)) (object rooms)
-unary_rule front.Not rooms a = by 33 (truth_type a.kind)
-unary_rule _ rooms a = by 33 (promoted_type a.kind)
+unary_rule front.AddressOf rooms a = by wrong_type (address_type (kind_at (changeable a)))
+unary_rule front.Deref rooms a = then_rule (by wrong_type (target_type a.kind)) (object rooms)
+unary_rule front.Not rooms a = by wrong_type (truth_type a.kind)
+unary_rule _ rooms a = by wrong_type (promoted_type a.kind)
 
 abbrev pub unary_sort : UnaryOp → Option TypeOf → Constant → Sort
 unary_sort front.Deref k c = a_place k No
@@ -165,7 +166,7 @@ typed_unary token o first p u a s =
 
 -- ++ and --, before or behind their operand
 abbrev pub step_rule : List Measure → Sort → Ruled
-step_rule rooms a = then_rule (by 33 (step_type (kind_at (changeable a)))) (moved rooms)
+step_rule rooms a = then_rule (by wrong_type (step_type (kind_at (changeable a)))) (moved rooms)
 
 abbrev pub typed_step : ℕ → Pos → ℕ → Pos → Sort → State → Outcome
 typed_step token o first p a s =
@@ -189,17 +190,17 @@ typed_type_size token o k s = size_outcome token o (of_kind k (whole s.rooms)) (
 
 abbrev pub typed_cast : ℕ → Pos → Option TypeOf → Sort → State → Outcome
 typed_cast token o k a s =
-    comes_to (plainly (a_value (kind_at (by 33 (cast_type k a.kind))) (cast_constant k a.constant))) (rule (by 33 (cast_type k a.kind)) token o s)
+    comes_to (plainly (a_value (kind_at (by wrong_type (cast_type k a.kind))) (cast_constant k a.constant))) (rule (by wrong_type (cast_type k a.kind)) token o s)
 
 abbrev pub plain_rule : BinaryOp → List Measure → Sort → Sort → Ruled
-plain_rule u rooms a b = then_rule (by 33 (binary_type u a.kind (null a) b.kind (null b))) (moved rooms)
+plain_rule u rooms a b = then_rule (by wrong_type (binary_type u a.kind (null a) b.kind (null b))) (moved rooms)
 
 abbrev pub typed_plain : ℕ → Pos → BinaryOp → Sort → Sort → State → Outcome
 typed_plain token o u a b s =
     comes_to (plainly (a_value (kind_at (plain_rule u s.rooms a b)) (constants.binary u a.constant b.constant))) (rule (plain_rule u s.rooms a b) token o s)
 
 abbrev pub logical : ℕ → Pos → Constant → Sort → Sort → State → Outcome
-logical token o c a b s = comes_to (plainly (a_value (kind_at (by 33 (logical_type a.kind b.kind))) c)) (rule (by 33 (logical_type a.kind b.kind)) token o s)
+logical token o c a b s = comes_to (plainly (a_value (kind_at (by wrong_type (logical_type a.kind b.kind))) c)) (rule (by wrong_type (logical_type a.kind b.kind)) token o s)
 
 abbrev pub typed_and : ℕ → Pos → Sort → Sort → State → Outcome
 typed_and token o a b s = logical token o (constants.both a.constant b.constant) a b s
@@ -212,8 +213,8 @@ abbrev pub left_side : Sort → Sort → Ruled
 left_side a b = of_kind b.kind (λ t. changeable a)
 
 abbrev pub assigned_rule : Option BinaryOp → List Measure → Sort → Sort → Ruled
-assigned_rule None rooms a b = by 33 (fits_type (kind_at (left_side a b)) b.kind (null b))
-assigned_rule (Some u) rooms a b = then_rule (by 33 (compound_type u (kind_at (left_side a b)) b.kind)) (moved rooms)
+assigned_rule None rooms a b = by wrong_type (fits_type (kind_at (left_side a b)) b.kind (null b))
+assigned_rule (Some u) rooms a b = then_rule (by wrong_type (compound_type u (kind_at (left_side a b)) b.kind)) (moved rooms)
 
 -- the left side begins at the second of the tokens, at that place
 abbrev pub typed_assign : ℕ → Pos → ℕ → Pos → Option BinaryOp → Sort → Sort → State → Outcome
@@ -231,14 +232,14 @@ typed_infix token o first p (assign u) a b s = typed_assign token o first p u a 
 typed_infix token o first p comma a b s = typed_comma a b s
 
 abbrev pub choice_rule : Sort → Sort → Sort → Ruled
-choice_rule a b c = by 33 (conditional_type a.kind b.kind (null b) c.kind (null c))
+choice_rule a b c = by wrong_type (conditional_type a.kind b.kind (null b) c.kind (null c))
 
 abbrev pub typed_choice : ℕ → Pos → Sort → Sort → Sort → State → Outcome
 typed_choice token o a b c s =
     comes_to (plainly (a_value (kind_at (choice_rule a b c)) (constants.choice a.constant b.constant c.constant))) (rule (choice_rule a b c) token o s)
 
 abbrev pub element_rule : List Measure → Sort → Sort → Ruled
-element_rule rooms a b = then_rule (by 33 (element_type a.kind b.kind)) (object rooms)
+element_rule rooms a b = then_rule (by wrong_type (element_type a.kind b.kind)) (object rooms)
 
 abbrev pub typed_index : ℕ → Pos → Sort → Sort → State → Outcome
 typed_index token o a b s =
@@ -247,11 +248,11 @@ typed_index token o a b s =
 
 -- the structure before a point or an arrow
 abbrev pub holder : Access → List Measure → Option TypeOf → Ruled
-holder dot rooms k = by 33 (structure_type k)
-holder arrow rooms k = then_rule (by 33 (pointed_type k)) (complete rooms)
+holder dot rooms k = by wrong_type (structure_type k)
+holder arrow rooms k = then_rule (by wrong_type (pointed_type k)) (complete rooms)
 
 abbrev pub found_field : Option TypeOf → Ruled
-found_field None = refused 41
+found_field None = refused unknown_field
 found_field (Some t) = allowed t
 
 abbrev pub field_rule : Text → State → TypeOf → Ruled
@@ -286,7 +287,7 @@ with_seen def x n s = record s { defs = s.defs ++ (x, n) ∷ [] }
 
 abbrev pub claimed : Probing → Text → ℕ → Pos → Option ℕ → Option ℕ → State → State
 claimed u x token p (Some n) None s = record s { seen = with_seen u x n s.seen }
-claimed u x token p _ _ s = complain 37 token p s
+claimed u x token p _ _ s = complain stray token p s
 
 -- a probe's number: from 1 to 16383, in decimal, and new for its kind
 abbrev pub claim : Probing → Text → ℕ → Pos → State → State
@@ -298,8 +299,8 @@ as_decayed t = allowed (decay t)
 -- a block round anything; a test round a scalar; the other two round a place of one
 abbrev pub probe_rule : Probing → Sort → Ruled
 probe_rule block a = of_kind a.kind as_decayed
-probe_rule test a = then_rule (by 33 (truth_type a.kind)) (λ t. of_kind a.kind as_decayed)
-probe_rule _ a = then_rule (by 33 (scalar_type a.kind)) (allowed_if a.place 33)
+probe_rule test a = then_rule (by wrong_type (truth_type a.kind)) (λ t. of_kind a.kind as_decayed)
+probe_rule _ a = then_rule (by wrong_type (scalar_type a.kind)) (allowed_if a.place wrong_type)
 
 abbrev pub probe_sort : Probing → Option TypeOf → Constant → Sort
 probe_sort block k c = a_value k (constants.probed c)
@@ -316,7 +317,7 @@ is_there (Some v) = true
 
 -- an integer constant expression without fault, where no complaint stands inside
 abbrev pub constant_rule : Sort → Ruled
-constant_rule a = of_kind a.kind (allowed_if (is_there (constants.value a.constant)) 35)
+constant_rule a = of_kind a.kind (allowed_if (is_there (constants.value a.constant)) not_constant)
 
 abbrev pub is_among : ℤ → List (Option ℤ) → Bool
 is_among v [] = false
@@ -333,13 +334,13 @@ differ k (None ∷ vs) = differ k vs
 differ k (Some v ∷ vs) = not (is_among (wrap k v) (map (wrapped k) vs)) && differ k vs
 
 abbrev pub select_cases : List (Option ℤ) → TypeOf → Ruled
-select_cases vs (int k) = allowed_if (differ k vs) 33 (int k)
+select_cases vs (int k) = allowed_if (differ k vs) wrong_type (int k)
 select_cases vs t = unsettled
 
 -- a select probe round an integer, with constants that differ in its promoted type, if no complaint stands inside
 abbrev pub select_rule : Bool → List (Option ℤ) → Sort → Ruled
 select_rule false vs a = unsettled
-select_rule true vs a = then_rule (then_rule (by 33 (promoted_type a.kind)) (select_cases vs)) (λ t. of_kind a.kind allowed)
+select_rule true vs a = then_rule (then_rule (by wrong_type (promoted_type a.kind)) (select_cases vs)) (λ t. of_kind a.kind allowed)
 
 -- no complaint came in its constants and its expression if that test holds
 abbrev pub typed_select : ℕ → Pos → Bool → List (Option ℤ) → Sort → State → Outcome

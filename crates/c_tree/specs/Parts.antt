@@ -26,6 +26,7 @@ use Rattle.c_tables.specs.Rows.{row}
 use Rattle.c_tree.specs.Rulings.{Ruled, allowed, refused, rule, of_kind, allowed_if, whole, object, complete}
 use Rattle.c_tree.specs.Sorts.{Sort, TypedNode, pos_in}
 use Rattle.c_tree.specs.Operators.{Given, given_at, constant_rule}
+use Rattle.c_tree.specs.Complaints.{declared_twice, not_constant, unknown_name, wrong_type}
 
 -- ---- lists of expressions
 
@@ -84,7 +85,7 @@ is_count (counted n) = true
 is_count _ = false
 
 abbrev pub length_rule : Sort → Ruled
-length_rule a = of_kind a.kind (allowed_if (is_count (length_of a)) 35)
+length_rule a = of_kind a.kind (allowed_if (is_count (length_of a)) not_constant)
 
 abbrev pub judged_length : ℕ → Pos → Sort → State → State
 judged_length token p a s = rule (length_rule a) token p s
@@ -149,7 +150,7 @@ abbrev pub base_rule : Base → Option TypeOf → Ruled
 base_rule base.Void k = allowed nothing
 base_rule (base.Int i) k = allowed (int i)
 base_rule base.Tagged k = of_kind k allowed
-base_rule base.Wrong k = refused 33
+base_rule base.Wrong k = refused wrong_type
 
 abbrev pub spelled_rule : Spelled → Ruled
 spelled_rule a = base_rule (words.base_of a.words) a.tagged
@@ -182,7 +183,7 @@ abbrev pub new_structure : Text → State → Opened
 new_structure x s = record { number = Some (next_structure s); state = with_tag x (tag.Structure (next_structure s)) (with_structure (Some x) s) }
 
 abbrev pub twice : Pos → State → Opened
-twice p s = record { number = None; state = complain 31 s.at p s }
+twice p s = record { number = None; state = complain declared_twice s.at p s }
 
 -- a structure's tag without a list, as the scopes have it
 abbrev pub known_structure : Pos → Text → Option Tag → State → Opened
@@ -263,7 +264,7 @@ with_field _ x k fields = fields
 
 -- a field: its name is new in its structure, and its type complete
 abbrev pub field_state : ℕ → Pos → Bool → Option TypeOf → State → State
-field_state token p free k s = rule (of_kind k (whole s.rooms)) token p (demand free 31 token p s)
+field_state token p free k s = rule (of_kind k (whole s.rooms)) token p (demand free declared_twice token p s)
 
 -- ---- enumerators
 
@@ -285,7 +286,7 @@ abbrev pub only_int : Option ℤ → Option ℤ
 only_int v = if in_int v then v else None
 
 abbrev pub value_rule : Sort → Ruled
-value_rule a = of_kind a.kind (allowed_if (in_int (constants.value a.constant)) 35)
+value_rule a = of_kind a.kind (allowed_if (in_int (constants.value a.constant)) not_constant)
 
 abbrev pub given_value : ℕ → Pos → TypedNode → Valued
 given_value token p a = record {
@@ -300,7 +301,7 @@ passes (Some v) = not (in_range Int v)
 
 -- without a value it has the next one
 abbrev pub next_value : ℕ → Pos → Option ℤ → State → Valued
-next_value token p v s = record { node = no_node; value = only_int v; state = demand (not (passes v)) 35 token p s }
+next_value token p v s = record { node = no_node; value = only_int v; state = demand (not (passes v)) not_constant token p s }
 
 abbrev pub entity_of : Option ℤ → Entity
 entity_of None = entity.Unknown
@@ -312,7 +313,7 @@ with_name x e s = record s { names = declared x e s.names }
 -- an ordinary name is new in its scope
 abbrev pub declared_at : ℕ → Pos → Text → Entity → Option Entity → State → State
 declared_at token p x e None s = with_name x e s
-declared_at token p x e (Some other) s = complain 31 token p s
+declared_at token p x e (Some other) s = complain declared_twice token p s
 
 abbrev pub declare : ℕ → Pos → Text → Entity → State → State
 declare token p x e s = declared_at token p x e (find_here x s.names) s
@@ -323,12 +324,12 @@ after v = option_map (λ n. n +ℤ pos 1) v
 -- an enumeration's tag without a list
 abbrev pub known_enumeration : Pos → Option Tag → State → State
 known_enumeration p (Some tag.Enumeration) s = s
-known_enumeration p (Some (tag.Structure n)) s = complain 31 s.at p s
-known_enumeration p None s = complain 30 s.at p s
+known_enumeration p (Some (tag.Structure n)) s = complain declared_twice s.at p s
+known_enumeration p None s = complain unknown_name s.at p s
 
 abbrev pub listed_enumeration : Pos → Text → Option Tag → State → State
 listed_enumeration p x None s = with_tag x tag.Enumeration s
-listed_enumeration p x (Some t) s = complain 31 s.at p s
+listed_enumeration p x (Some t) s = complain declared_twice s.at p s
 
 -- the tag of an enumeration, behind its key
 abbrev pub enumeration : Bool → Option Named → State → State

@@ -10,6 +10,7 @@ use Rattle.c_constants.specs.declared.constants.Constant.{Constant}
 use Rattle.c_constants.specs.declared.constants.Constant.TheVariants.{No, Known}
 use Rattle.c_constants.specs.Constants as constants
 use Rattle.c_tree.specs.State.{State, complain}
+use Rattle.c_tree.specs.Complaints.{incomplete_type, too_large_type, wrong_type}
 
 -- ---- rulings
 
@@ -54,8 +55,8 @@ allowed_if false number t = refused number
 
 abbrev pub by_room : Measure → TypeOf → Ruled
 by_room (known e) t = allowed t
-by_room incomplete t = refused 39
-by_room too_large t = refused 42
+by_room incomplete t = refused incomplete_type
+by_room too_large t = refused too_large_type
 
 -- an object has a complete type that isn't too large
 abbrev pub whole : List Measure → TypeOf → Ruled
@@ -68,7 +69,7 @@ object rooms t = whole rooms t
 
 abbrev pub by_end : Measure → TypeOf → Ruled
 by_end (known e) t = allowed t
-by_end incomplete t = refused 39
+by_end incomplete t = refused incomplete_type
 by_end too_large t = allowed t
 
 -- a type that was completed
@@ -94,7 +95,7 @@ size_constant rooms (Some t) = size_in (measure rooms t)
 
 -- an operand of a sizeof: a void has no size, and no value
 abbrev pub sized : List Measure → TypeOf → Ruled
-sized rooms nothing = refused 33
+sized rooms nothing = refused wrong_type
 sized rooms t = whole rooms t
 
 abbrev pub as_size : TypeOf → Ruled

@@ -7,6 +7,7 @@ use Rattle.c_constants.specs.declared.constants.Constant.TheVariants.{No, Known}
 use Rattle.c_constants.specs.Constants as constants
 use Rattle.c_tree.specs.State.{State, is_clean}
 use Rattle.c_tree.specs.Rulings.{Ruled, of_kind, allowed_if}
+use Rattle.c_tree.specs.Complaints.{not_a_left_side}
 
 -- ---- what is known of an expression
 
@@ -103,4 +104,4 @@ null a = constants.is_null a.constant
 
 -- what may be changed, or have its address taken: a place
 abbrev pub changeable : Sort → Ruled
-changeable sort = of_kind sort.kind (allowed_if sort.place 32)
+changeable sort = of_kind sort.kind (allowed_if sort.place not_a_left_side)

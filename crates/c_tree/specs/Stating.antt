@@ -13,6 +13,7 @@ use Rattle.c_tree.specs.Operators.{claim, constant_rule, is_among, wrapped}
 use Rattle.c_tree.specs.Parts.{judged_constant}
 use Rattle.c_tree.specs.Typing.{type_node}
 use Rattle.c_tree.specs.Declaring.{type_decls, opened_scope, closed_scope}
+use Rattle.c_tree.specs.Complaints.{case_twice, stray, wrong_type}
 
 -- ---- what stands round a statement
 
@@ -45,10 +46,10 @@ no_labels r = record { kind = kind_of_switch (kind_at r); values = []; default =
 
 -- a test is a scalar
 abbrev pub tested : ℕ → TypedNode → State
-tested first a = rule (by 33 (truth_type a.sort.kind)) first (pos_in a.node) a.state
+tested first a = rule (by wrong_type (truth_type a.sort.kind)) first (pos_in a.node) a.state
 
 abbrev pub switched : TypedNode → Ruled
-switched a = by 33 (promoted_type a.sort.kind)
+switched a = by wrong_type (promoted_type a.sort.kind)
 
 pub record TypedMaybe : Type 0 where
   pub node : MaybeNode
@@ -67,7 +68,7 @@ type_test (one_node a) s = let t = type_node a s in a_maybe t (tested s.at t)
 
 -- a value that is given back fits into what the function gives
 abbrev pub result_rule : Option TypeOf → Sort → Ruled
-result_rule k a = of_kind k (λ t. by 33 (fits_type (Some t) a.kind (null a)))
+result_rule k a = of_kind k (λ t. by wrong_type (fits_type (Some t) a.kind (null a)))
 
 abbrev pub type_result : ℕ → Pos → Option TypeOf → MaybeNode → State → TypedMaybe
 type_result token p k no_node s = record { node = no_node; state = s }
@@ -99,12 +100,12 @@ with_value v l = record l { values = v ∷ l.values }
 
 -- a case at that token: directly in a switch, and for the first time there
 abbrev pub case_state : ℕ → Pos → Option Labels → Option ℤ → State → State
-case_state token p None v s = complain 37 token p s
-case_state token p (Some l) v s = demand (not (comes_twice l.kind (as_kind l.kind v) l.values)) 36 token p s
+case_state token p None v s = complain stray token p s
+case_state token p (Some l) v s = demand (not (comes_twice l.kind (as_kind l.kind v) l.values)) case_twice token p s
 
 abbrev pub default_state : ℕ → Pos → Option Labels → State → State
-default_state token p None s = complain 37 token p s
-default_state token p (Some l) s = demand (not l.default) 36 token p s
+default_state token p None s = complain stray token p s
+default_state token p (Some l) s = demand (not l.default) case_twice token p s
 
 abbrev pub case_labels : Option Labels → Option ℤ → Option Labels
 case_labels o v = option_map (λ l. with_value (as_kind l.kind v) l) o
@@ -186,8 +187,8 @@ abbrev mutual
       let r = switched t in
       let v = type_items (in_switch c) (Some (no_labels r)) items (steps 2 (rule r (steps 2 s).at (pos_in t.node) t.state)) in
       record { form = switch t.node v.items; state = step v.state }
-  type_body c p break s = record { form = break; state = steps 2 (demand c.breakable 37 s.at p s) }
-  type_body c p continue s = record { form = continue; state = steps 2 (demand c.loop 37 s.at p s) }
+  type_body c p break s = record { form = break; state = steps 2 (demand c.breakable stray s.at p s) }
+  type_body c p continue s = record { form = continue; state = steps 2 (demand c.loop stray s.at p s) }
   type_body c p (return e) s =
       let t = type_result s.at p c.result e (step s) in
       record { form = return t.node; state = step t.state }

@@ -16,6 +16,7 @@ use Rattle.c_tree.specs.Sorts.{Formed, formed, TypedNode, TypedType, noted, pos_
 use Rattle.c_tree.specs.Operators.{Given, given_at, typed_number, typed_char, typed_string, typed_name, called, typed_call, typed_paren, typed_unary, typed_step, hushed, heard, typed_size, typed_type_size, typed_cast, typed_infix, typed_choice, typed_index, typed_field, claim, typed_probe, typed_select}
 use Rattle.c_tree.specs.Parts.{Length, left_out, length_of, TypedNodes, no_more, one_more, TypedCases, no_cases, judged_constant, one_case, TypedLengths, no_more_lengths, judged_length, open_length, one_length, pointed, star_tokens, arrays_of, Spelled, TypedSpecs, TypedSpec, unspelled, with_word, with_tagged, static_fits, spelled_rule, more_spec, begun_at, opened, tag_tokens, closed, structure_kind, kind_if, within, outside, TypedDecls, TypedNames, is_free, with_field, field_state, TypedRows, Valued, given_value, next_value, entity_of, declare, after, enumeration}
 use Rattle.c_tables.specs.Rows.{text_of, name_pos}
+use Rattle.c_tree.specs.Complaints.{stray, wrong_type}
 
 -- the parenthesis before arguments, where none follows; otherwise it is the first one's
 abbrev pub opening : NodeShapes → ℕ
@@ -117,7 +118,7 @@ abbrev mutual
   pub type_specs : Bool → SpecShapes → Spelled → State → TypedSpecs
   type_specs alone no_specs a s = record { specs = no_specs; spelled = a; state = s }
   type_specs alone (more_specs p (word k) rest) a s =
-      more_spec p (word k) (type_specs alone rest (with_word k a) (step (demand (static_fits k s.file) 37 s.at p s)))
+      more_spec p (word k) (type_specs alone rest (with_word k a) (step (demand (static_fits k s.file) stray s.at p s)))
   type_specs alone (more_specs p (struct t ds) rest) a s =
       let r = type_struct alone t ds (step s) in
       more_spec p r.spec (type_specs alone rest (with_tagged r.kind a) r.state)
@@ -162,7 +163,7 @@ abbrev mutual
       record { names = more_declarators (declarator stars x (arrays l.lengths) i) n.names; fields = n.fields; state = n.state }
   type_fields p k (more_declarators (declarator stars x (function ps) i) rest) fields s =
       let begun = steps (star_tokens stars) s in
-      let n = type_fields p k rest fields (complain 33 begun.at (name_pos p x) (step begun)) in
+      let n = type_fields p k rest fields (complain wrong_type begun.at (name_pos p x) (step begun)) in
       record { names = more_declarators (declarator stars x (function ps) i) n.names; fields = n.fields; state = n.state }
 
   -- an enumeration behind its key

@@ -24,6 +24,7 @@ use Rattle.c_tree.specs.Typing.{type_specs}
 use Rattle.c_tree.specs.Declaring.{next_variable, with_variable, TypedFunction, type_function, type_decl, closed_scope, with_constants}
 use Rattle.c_scopes.specs.Scoping.{find_here, entered}
 use Rattle.c_tree.specs.Stating.{Surroundings, type_marks, type_compound}
+use Rattle.c_tree.specs.Complaints.{no_main, stray, wrong_type}
 
 -- ---- functions with bodies
 
@@ -76,9 +77,9 @@ type_external (defined specs (declarator stars x (function ps) i) marks c) s =
     let t = type_specs false specs unspelled s in
     let r = spelled_rule t.spelled in
     let f = type_function true (kind_at r) stars x ps i (rule r s.at (specs_place specs) t.state) in
-    type_definition t.specs f (kind_at (by 33 (result_type (pointed stars (kind_at r))))) marks c
+    type_definition t.specs f (kind_at (by wrong_type (result_type (pointed stars (kind_at r))))) marks c
 type_external (defined specs (declarator stars x (arrays ls) i) marks c) s =
-    record { external = defined specs (declarator stars x (arrays ls) i) marks c; state = complain 33 s.at first_place s }
+    record { external = defined specs (declarator stars x (arrays ls) i) marks c; state = complain wrong_type s.at first_place s }
 
 pub record TypedExternals : Type 0 where
   pub externals : List ExternalShape
@@ -115,7 +116,7 @@ start known = record {
 -- the program line: word, parenthesis, string, parenthesis and semicolon
 abbrev pub type_line : Option ProgramLine → State → State
 type_line None s = s
-type_line (Some l) s = steps 5 (demand (is_some (digest_of l.digest)) 37 s.at l.pos s)
+type_line (Some l) s = steps 5 (demand (is_some (digest_of l.digest)) stray s.at l.pos s)
 
 abbrev pub main_name : Text
 main_name = 109 ∷ 97 ∷ 105 ∷ 110 ∷ []
@@ -137,7 +138,7 @@ type_unit known u =
     let t = type_externals u.externals (type_line u.line (start known)) in
     record {
       unit = record u { externals = t.externals };
-      state = demand (any_main t.state.tables.functions) 38 (t.state.at - 1) u.last t.state;
+      state = demand (any_main t.state.tables.functions) no_main (t.state.at - 1) u.last t.state;
     }
 
 -- which functions have bodies, if each call is allowed

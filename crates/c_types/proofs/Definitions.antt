@@ -16,6 +16,7 @@ use Rattle.c_tree.specs.Parts.{pointed}
 use Rattle.c_tree.specs.Declaring.{TypedFunction, type_function}
 use Rattle.c_tree.specs.Units.{TypedExternal, type_definition, type_external, ended_function}
 use Rattle.c_types.specs.Defined.{typed_specs, kind_of_specs, behind_specs, defined_body}
+use Rattle.c_tree.specs.Complaints.{wrong_type}
 
 module _ (specs : SpecShapes) (f : TypedFunction) (k : Option TypeOf) (marks : List ProbeMark) (c : CompoundShape)
     (n : ℕ) (given : List (Text × Option TypeOf)) (t : State) (hn : n ≡ f.number) (hg : given ≡ f.given) (ht : t ≡ f.state) where
@@ -27,13 +28,13 @@ module _ (specs : SpecShapes) (f : TypedFunction) (k : Option TypeOf) (marks : L
 
 module _ (specs : SpecShapes) (stars : List Star) (x : Option Named) (ps : ParamsShape) (marks : List ProbeMark) (c : CompoundShape) (s : State)
     (sp : SpecShapes) (k g : Option TypeOf) (r : State)
-    (hs : sp ≡ (typed_specs specs s).specs) (hk : k ≡ kind_of_specs specs s) (hr : r ≡ behind_specs specs s) (hg : g ≡ kind_at (by 33 (result_type (pointed stars k)))) where
+    (hs : sp ≡ (typed_specs specs s).specs) (hk : k ≡ kind_of_specs specs s) (hr : r ≡ behind_specs specs s) (hg : g ≡ kind_at (by wrong_type (result_type (pointed stars k)))) where
   pub whole : type_definition sp (type_function true k stars x ps no_init r) g marks c ≡ type_external (defined specs (declarator stars x (function ps) no_init) marks c) s
   whole = rw (hg, hs, hk, hr) refl
 
 module _ (specs : SpecShapes) (stars : List Star) (x : Option Named) (ps : ParamsShape) (marks : List ProbeMark) (c : CompoundShape) (s : State)
     (sp : SpecShapes) (k g : Option TypeOf) (r : State)
-    (hs : sp ≡ (typed_specs specs s).specs) (hk : k ≡ kind_of_specs specs s) (hr : r ≡ behind_specs specs s) (hg : g ≡ kind_at (by 33 (result_type (pointed stars k))))
+    (hs : sp ≡ (typed_specs specs s).specs) (hk : k ≡ kind_of_specs specs s) (hr : r ≡ behind_specs specs s) (hg : g ≡ kind_at (by wrong_type (result_type (pointed stars k))))
     (n : ℕ) (given : List (Text × Option TypeOf)) (t : State) (fn : n ≡ (type_function true k stars x ps no_init r).number) (fg : given ≡ (type_function true k stars x ps no_init r).given) (ft : t ≡ (type_function true k stars x ps no_init r).state) where
   pub defined_tree : (y : DeclaratorShape) (b : CompoundShape) → y ≡ (type_function true k stars x ps no_init r).name → b ≡ (defined_body n given g marks c t).compound →
       defined sp y marks b ≡ (type_external (defined specs (declarator stars x (function ps) no_init) marks c) s).external

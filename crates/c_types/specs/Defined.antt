@@ -12,6 +12,7 @@ use Rattle.c_tree.specs.Typing.{type_specs}
 use Rattle.c_tree.specs.Declaring.{next_variable, with_constants}
 use Rattle.c_tree.specs.Stating.{TypedCompound, type_marks, type_compound}
 use Rattle.c_tree.specs.Units.{specs_place, with_variables, numbers_from, TypedUnit, any_main, type_externals, type_line}
+use Rattle.c_tree.specs.Complaints.{no_main}
 
 -- the function with that number, and with these parameters, has a body from here on
 abbrev pub begun : ℕ → List (Text × Option TypeOf) → State → State
@@ -32,7 +33,7 @@ unit_from s u =
     let t = type_externals u.externals (type_line u.line s) in
     record {
       unit = record u { externals = t.externals };
-      state = demand (any_main t.state.tables.functions) 38 (t.state.at - 1) u.last t.state;
+      state = demand (any_main t.state.tables.functions) no_main (t.state.at - 1) u.last t.state;
     }
 
 -- ---- the specifiers of a function

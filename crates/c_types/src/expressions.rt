@@ -12,6 +12,7 @@ ghost use Rattle.c_checker.specs.CheckerView.{state_of};
 ghost use Rattle.c_checker.specs.RulingView.{ruled_of};
 ghost use Rattle.c_checker.specs.SortView.{sort_of};
 ghost use Rattle.c_types.specs.Stated.{for_first, for_test, for_last, switch_value, switch_begun};
+ghost use Rattle.c_tree.specs.Complaints.{wrong_type};
 
 use c_base::place::{NoMemory, Pos};
 use c_checker::checker::Checker;
@@ -19,6 +20,7 @@ use c_checker::probes::Probing;
 use c_checker::ruling::{Ruling, by};
 use c_checker::sort::{Sort, copied};
 use c_syntax::tree::{CType, Node, ProbeMark};
+use c_tree::complaints::WRONG_TYPE;
 use c_type_rules::choosing::truth;
 use c_type_rules::single::promoted_value;
 use c_type_rules::storing::fits;
@@ -41,9 +43,9 @@ pub fn type_maybe(checker: &mut Checker, node: &mut Option<Node>) -> Result<(), 
 
 // A test, which begins at that token, is a scalar.
 fn tested(checker: &mut Checker, token: u32, pos: Pos, a: Sort) -> Result<(), NoMemory>
-    ensures { OnOk result (state_of checker.new ≡ rule (by 33 (truth_type (sort_of a).kind)) token pos (state_of checker.old)) }
+    ensures { OnOk result (state_of checker.new ≡ rule (by wrong_type (truth_type (sort_of a).kind)) token pos (state_of checker.old)) }
 {
-    checker.rule(by(33, truth(a.kind)), token, pos)?;
+    checker.rule(by(WRONG_TYPE, truth(a.kind)), token, pos)?;
     Ok(())
 }
 
@@ -88,7 +90,7 @@ fn result_rule(gives: &Option<CType>, a: Sort, alloc: Global) -> Result<Ruling, 
     ensures { IfOk result (λ r. ruled_of r ≡ result_rule (type_in gives.now) (sort_of a)) }
 {
     let to = copied(gives, alloc)?;
-    Ok(by(33, fits(to, a.operand())))
+    Ok(by(WRONG_TYPE, fits(to, a.operand())))
 }
 
 /// The value of a `return`, which stands at that token, if there is one.
@@ -167,7 +169,7 @@ pub fn type_switched(checker: &mut Checker, node: &mut Node) -> Result<Option<CT
     let token = checker.at;
     let pos = node.pos;
     let a = type_node(checker, node)?;
-    let kind = checker.rule(by(33, promoted_value(a.kind)), token, pos)?;
+    let kind = checker.rule(by(WRONG_TYPE, promoted_value(a.kind)), token, pos)?;
     checker.steps(2);
     Ok(kind)
 }

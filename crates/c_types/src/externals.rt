@@ -10,6 +10,7 @@ ghost use Rattle.c_tree.specs.Parts.{pointed};
 ghost use Rattle.c_tree.specs.Units.{specs_place, type_external, type_externals};
 ghost use Rattle.c_checker.specs.CheckerView.{state_of};
 ghost use Rattle.c_types.specs.Defined.{typed_specs, kind_of_specs, behind_specs};
+ghost use Rattle.c_tree.specs.Complaints.{wrong_type};
 
 use crate::functions::type_definition;
 use c_base::place::{NoMemory, Pos};
@@ -20,6 +21,7 @@ use c_checker_parts::lengths::pointed;
 use c_syntax::tree::{
     CType, Compound, DeclForm, Declarator, External, Named, Params, ProbeMark, Spec, Star,
 };
+use c_tree::complaints::WRONG_TYPE;
 use c_type_rules::storing::result_kind;
 use c_types_decl::declarations::type_decl;
 use c_types_decl::functions::type_function;
@@ -52,11 +54,11 @@ fn type_heading(checker: &mut Checker, specs: &mut Vec<Spec>) -> Result<Option<C
 
 // What a function gives, in front of whose stars stands that type.
 fn given_by(stars: &[Star], kind: &Option<CType>, alloc: Global) -> Result<Option<CType>, NoMemory>
-    ensures { IfOk result (λ k. type_in k ≡ kind_at (by 33 (result_type (pointed stars.now (type_in kind.now))))) }
+    ensures { IfOk result (λ k. type_in k ≡ kind_at (by wrong_type (result_type (pointed stars.now (type_in kind.now))))) }
 {
     let kind = copied(kind, alloc)?;
     let kind = pointed(stars, kind, alloc)?;
-    Ok(by(33, result_kind(kind)).kind())
+    Ok(by(WRONG_TYPE, result_kind(kind)).kind())
 }
 
 // Types a function with a body in place.
@@ -94,7 +96,7 @@ fn type_behind(
 {
     match form {
         DeclForm::Arrays(_) => {
-            checker.complain(33, checker.at, first_place())?;
+            checker.complain(WRONG_TYPE, checker.at, first_place())?;
             Ok(())
         }
         DeclForm::Function(params) => {

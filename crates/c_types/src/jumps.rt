@@ -6,11 +6,13 @@ ghost use Rattle.c_syntax.specs.View.{maybe_node};
 ghost use Rattle.c_tree.specs.State.{demand, step, steps};
 ghost use Rattle.c_tree.specs.Stating.{type_result};
 ghost use Rattle.c_checker.specs.CheckerView.{state_of};
+ghost use Rattle.c_tree.specs.Complaints.{stray};
 
 use crate::expressions::type_result;
 use c_base::place::{NoMemory, Pos};
 use c_checker::checker::Checker;
 use c_syntax::tree::{CType, Node};
+use c_tree::complaints::STRAY;
 
 /// Whether a statement stands in a loop, and whether in a loop or a `switch`.
 #[derive(Clone, Copy, Debug, PartialEq, Eq)]
@@ -53,18 +55,18 @@ impl Jumps {
 
 /// A `break` at that place, with its semicolon.
 pub fn type_break(checker: &mut Checker, jumps: Jumps, pos: Pos) -> Result<(), NoMemory>
-    ensures { OnOk result (state_of checker.new ≡ steps 2 (demand jumps.breakable 37 (state_of checker.old).at pos (state_of checker.old))) }
+    ensures { OnOk result (state_of checker.new ≡ steps 2 (demand jumps.breakable stray (state_of checker.old).at pos (state_of checker.old))) }
 {
-    checker.demand(jumps.breakable, 37, checker.at, pos)?;
+    checker.demand(jumps.breakable, STRAY, checker.at, pos)?;
     checker.steps(2);
     Ok(())
 }
 
 /// A `continue` at that place, with its semicolon.
 pub fn type_continue(checker: &mut Checker, jumps: Jumps, pos: Pos) -> Result<(), NoMemory>
-    ensures { OnOk result (state_of checker.new ≡ steps 2 (demand jumps.looped 37 (state_of checker.old).at pos (state_of checker.old))) }
+    ensures { OnOk result (state_of checker.new ≡ steps 2 (demand jumps.looped stray (state_of checker.old).at pos (state_of checker.old))) }
 {
-    checker.demand(jumps.looped, 37, checker.at, pos)?;
+    checker.demand(jumps.looped, STRAY, checker.at, pos)?;
     checker.steps(2);
     Ok(())
 }

@@ -14,6 +14,7 @@ use c_arith::convert;
 use c_base::place::{IntKind, NoMemory, Pos};
 use c_checker::checker::Checker;
 use c_syntax::tree::{CType, Label, Node};
+use c_tree::complaints::{CASE_TWICE, STRAY};
 use c_types_expr::nodes::type_node;
 use indexmap::IndexSet;
 use std::alloc::Global;
@@ -85,12 +86,12 @@ fn see_case(
 {
     match labels {
         None => {
-            checker.complain(37, token, pos)?;
+            checker.complain(STRAY, token, pos)?;
             Ok(())
         }
         Some(labels) => {
             let fresh = labels.see(value)?;
-            checker.demand(fresh, 36, token, pos)?;
+            checker.demand(fresh, CASE_TWICE, token, pos)?;
             Ok(())
         }
     }
@@ -107,11 +108,11 @@ fn see_default(
     ensures state { OnOk result (state_of checker.new ≡ default_state token pos (labels_in labels.old) (state_of checker.old)) }
 {
     match labels {
-        None => checker.complain(37, token, pos),
+        None => checker.complain(STRAY, token, pos),
         Some(labels) => {
             let fresh = !labels.default;
             labels.default = true;
-            checker.demand(fresh, 36, token, pos)
+            checker.demand(fresh, CASE_TWICE, token, pos)
         }
     }
 }

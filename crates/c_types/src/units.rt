@@ -13,6 +13,7 @@ use c_checker::checker::Checker;
 use c_constants::probes::digest;
 use c_syntax::tree::{CType, ProgramLine, Unit};
 use c_tables::tables::{FunctionRow, Tables};
+use c_tree::complaints::{NO_MAIN, STRAY};
 use c_type_rules::kinds::same;
 use std::alloc::Global;
 
@@ -24,7 +25,7 @@ fn type_line(checker: &mut Checker, line: &Option<ProgramLine>) -> Result<(), No
         None => Ok(()),
         Some(line) => {
             let spelled = digest(line.digest.bytes()).is_some();
-            checker.demand(spelled, 37, checker.at, line.pos)?;
+            checker.demand(spelled, STRAY, checker.at, line.pos)?;
             checker.steps(5);
             Ok(())
         }
@@ -76,6 +77,6 @@ pub fn type_unit(checker: &mut Checker, unit: &mut Unit) -> Result<(), NoMemory>
     type_externals(checker, &mut unit.externals)?;
     let found = any_main(&checker.tables);
     let last = checker.at.saturating_sub(1);
-    checker.demand(found, 38, last, unit.last)?;
+    checker.demand(found, NO_MAIN, last, unit.last)?;
     Ok(())
 }

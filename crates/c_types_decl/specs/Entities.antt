@@ -19,6 +19,7 @@ use Rattle.c_tables.specs.declared.builtins.Builtin.{Builtin}
 use Rattle.c_tables.specs.declared.builtins.Builtin.TheVariants.{GetChar, PutChar, Exit}
 use Rattle.c_tree.specs.Declaring.{Signature, signature_of, is_builtin, opened_scope, closed_params, TypedSignature, type_params, all_kinds, with_body, declare_function}
 use Rattle.c_types_decl.specs.Steps.{place_of, claimed_name}
+use Rattle.c_tree.specs.Complaints.{wrong_type}
 
 abbrev pub signature : TypeOf → List TypeOf → Signature
 signature t ts = record { result = t; params = ts }
@@ -56,5 +57,5 @@ type_enclosed defining x ps s =
 -- the function that gives that type and takes those parameters
 abbrev pub settled_function : Bool → Bool → ℕ → Option Named → Option TypeOf → List (Text × Option TypeOf) → State → Numbered
 settled_function defining file token x k gs s =
-    let r = by 33 (result_type k) in
+    let r = by wrong_type (result_type k) in
     declare_function defining token (place_of x) (text_of x) (signature_of (kind_at r) (all_kinds gs)) (outside file (rule r token (place_of x) s))

@@ -13,6 +13,7 @@ use Rattle.c_tree.specs.Parts.{Length, unspelled, spelled_rule, pointed, star_to
 use Rattle.c_tree.specs.Initialisers.{lengths_with}
 use Rattle.c_tree.specs.Typing.{type_specs, type_lengths}
 use Rattle.c_tree.specs.Declaring.{name_tokens, claim_name, token_of_name, with_lengths, variable_rule, declare_variable, element_pointer, parameter_rule, name_demand, declare_parameter}
+use Rattle.c_tree.specs.Complaints.{wrong_type}
 
 -- ---- names
 
@@ -81,7 +82,7 @@ abbrev pub type_form : Bool → Pos → SpecShapes → List Star → Option Name
 type_form defining p specs stars x (arrays ls) s =
     let a = type_parts defining p specs stars x ls s in
     record { specs = a.specs; form = arrays a.lengths; given = (text_of x, a.kind) ∷ []; state = a.state }
-type_form defining p specs stars x (function ps) s = record { specs = specs; form = function ps; given = []; state = complain 33 s.at first_place s }
+type_form defining p specs stars x (function ps) s = record { specs = specs; form = function ps; given = []; state = complain wrong_type s.at first_place s }
 
 -- a declaration of a parameter list
 pub record TypedItem : Type 0 where
@@ -94,4 +95,4 @@ item_of p stars x i f = record { param = decl p f.specs (more_declarators (decla
 
 abbrev pub type_item : Bool → DeclShape → State → TypedItem
 type_item defining (decl p specs (more_declarators (declarator stars x f i) no_declarators)) s = item_of p stars x i (type_form defining p specs stars x f s)
-type_item defining d s = record { param = d; given = []; state = complain 33 s.at first_place s }
+type_item defining d s = record { param = d; given = []; state = complain wrong_type s.at first_place s }

@@ -16,6 +16,7 @@ use c_checker::checker::Checker;
 use c_syntax::text::Text;
 use c_syntax::tree::CType;
 use c_tables::builtins::Builtin;
+use c_tree::complaints::DECLARED_TWICE;
 use c_tree::meaning::Entity;
 
 // Whether the type is int.
@@ -146,7 +147,7 @@ fn function_at(
         None => checker.names.declare(name, entity),
         Some(other) => {
             let fits = fits(checker, defining, entity, other);
-            checker.demand(fits, 31, token, pos)
+            checker.demand(fits, DECLARED_TWICE, token, pos)
         }
     }
 }
@@ -172,7 +173,7 @@ fn unclear_at(
         None => checker.names.declare(name, Entity::Unknown),
         Some(other) => {
             let fits = fits_unclear(checker, defining, other);
-            checker.demand(fits, 31, token, pos)
+            checker.demand(fits, DECLARED_TWICE, token, pos)
         }
     }
 }

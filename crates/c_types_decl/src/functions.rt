@@ -22,6 +22,7 @@ use c_checker::ruling::by;
 use c_checker_parts::lengths::{pointed, step_stars};
 use c_syntax::text::Text;
 use c_syntax::tree::{CType, Named, Params, Star};
+use c_tree::complaints::WRONG_TYPE;
 use c_type_rules::storing::result_kind;
 
 /// A parameter: its name, which is empty where it has none, and its type, where no complaint stands inside.
@@ -94,7 +95,7 @@ fn settled_function(
     ensures number { IfOk result (λ n. n ≡ (settled_function defining file token name.now (type_in kind) (map parameter_of given.now) (state_of checker.old)).number) }
     ensures state { OnOk result (state_of checker.new ≡ (settled_function defining file token name.now (type_in kind) (map parameter_of given.now) (state_of checker.old)).state) }
 {
-    let gives = checker.rule(by(33, result_kind(kind)), token, place_of(name))?;
+    let gives = checker.rule(by(WRONG_TYPE, result_kind(kind)), token, place_of(name))?;
     checker.outside(file);
     let params = all_kinds(given, checker.alloc)?;
     declare_named(checker, defining, token, name, gives, params)

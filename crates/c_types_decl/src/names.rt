@@ -11,6 +11,7 @@ use c_checker::checker::Checker;
 use c_checker::probes::Probing;
 use c_checker_parts::fields::name_pos;
 use c_syntax::tree::{Named, ProbeMark};
+use c_tree::complaints::STRAY;
 
 /// The first place of a text.
 pub fn first_place() -> Pos
@@ -62,7 +63,7 @@ fn claim_mark(checker: &mut Checker, fits: bool, probe: &Option<ProbeMark>) -> R
         Some(mark) => {
             let token = checker.at;
             checker.claim(Probing::Def, mark.number.bytes(), token, mark.pos)?;
-            checker.demand(fits, 37, token, mark.pos)
+            checker.demand(fits, STRAY, token, mark.pos)
         }
     }
 }

@@ -24,6 +24,7 @@ use c_checker_parts::fields::name_pos;
 use c_checker_parts::lengths::{pointed, step_stars};
 use c_syntax::text::Text;
 use c_syntax::tree::{CType, DeclForm, Named, Node, Param, Spec, Star};
+use c_tree::complaints::{DECLARED_TWICE, STRAY, WRONG_TYPE};
 use c_tree::meaning::Entity;
 use c_types_expr::lengths::type_lengths;
 use std::alloc::Global;
@@ -74,7 +75,7 @@ fn declare_parameter(
         None => Ok(()),
         Some(name) => match checker.names.find_here(name.text.bytes()) {
             None => add_parameter(checker, &name.text, kind),
-            Some(_) => checker.complain(31, token, name.pos),
+            Some(_) => checker.complain(DECLARED_TWICE, token, name.pos),
         },
     }
 }
@@ -90,7 +91,7 @@ fn name_demand(
     ensures { OnOk result (state_of checker.new ≡ name_demand defining name.now token pos (state_of checker.old)) }
 {
     match (defining, name) {
-        (true, None) => checker.complain(37, token, pos),
+        (true, None) => checker.complain(STRAY, token, pos),
         _ => Ok(()),
     }
 }
@@ -210,7 +211,7 @@ fn type_form(
             Ok(())
         }
         DeclForm::Function(_) => {
-            checker.complain(33, checker.at, first_place())?;
+            checker.complain(WRONG_TYPE, checker.at, first_place())?;
             Ok(())
         }
     }

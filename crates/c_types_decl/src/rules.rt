@@ -13,6 +13,7 @@ use c_base::place::NoMemory;
 use c_checker::ruling::{Ruling, by, settled, whole};
 use c_checker_parts::lengths::{Length, arrays_of};
 use c_syntax::tree::CType;
+use c_tree::complaints::{INCOMPLETE_TYPE, TOO_LARGE_TYPE, WRONG_TYPE};
 use c_type_rules::extent::Measured;
 use c_type_rules::kinds::boxed;
 use c_type_rules::layout::measured;
@@ -69,7 +70,7 @@ fn with_lengths(lengths: &[Length], kind: CType, alloc: Global) -> Result<Ruling
         return Ok(Ruling::Unsettled);
     }
     if any_left_out(lengths) {
-        return Ok(Ruling::Refused(39));
+        return Ok(Ruling::Refused(INCOMPLETE_TYPE));
     }
     let kind = arrays_of(lengths, Some(kind), alloc)?;
     Ok(settled(kind))
@@ -139,7 +140,7 @@ fn element_pointer(rooms: &[Measured], kind: CType, alloc: Global) -> Result<Rul
     ensures { IfOk result (λ r. ruled_of r ≡ element_pointer (measures rooms.now) (type_of kind)) }
 {
     match measured(&kind, rooms) {
-        Measured::TooLarge => Ok(Ruling::Refused(42)),
+        Measured::TooLarge => Ok(Ruling::Refused(TOO_LARGE_TYPE)),
         _ => Ok(Ruling::Allowed(CType::Pointer(boxed(kind, alloc)?))),
     }
 }
@@ -149,7 +150,7 @@ fn scalar_rule(ruling: Ruling) -> Ruling
     ensures { ruled_of result ≡ scalar_rule (ruled_of ruling) }
 {
     match ruling {
-        Ruling::Allowed(kind) => by(33, parameter(Some(kind))),
+        Ruling::Allowed(kind) => by(WRONG_TYPE, parameter(Some(kind))),
         other => other,
     }
 }

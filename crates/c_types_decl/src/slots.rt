@@ -12,6 +12,7 @@ use c_base::place::{NoMemory, Pos};
 use c_checker::checker::Checker;
 use c_syntax::tree::CType;
 use c_tables::tables::FieldRow;
+use c_tree::complaints::WRONG_TYPE;
 use c_type_rules::kinds::copy;
 use std::alloc::Global;
 
@@ -65,7 +66,7 @@ impl<'a> Slots<'a> {
 pub fn judge_slot(checker: &mut Checker, slots: Slots, pos: Pos) -> Result<(), NoMemory>
     ensures { OnOk result (state_of checker.new ≡ rule (slot_rule (slots_of slots.entry)) (state_of checker.old).at pos (state_of checker.old)) }
 {
-    checker.demand(!slots.is_full(), 33, checker.at, pos)
+    checker.demand(!slots.is_full(), WRONG_TYPE, checker.at, pos)
 }
 
 /// A list stands for an array or a structure.
@@ -74,7 +75,7 @@ pub fn judge_list(checker: &mut Checker, kind: Option<&CType>, pos: Pos) -> Resu
 {
     match kind {
         None | Some(CType::Array(_, _)) | Some(CType::Struct(_)) => Ok(()),
-        Some(_) => checker.complain(33, checker.at, pos),
+        Some(_) => checker.complain(WRONG_TYPE, checker.at, pos),
     }
 }
 

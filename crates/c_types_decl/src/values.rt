@@ -19,6 +19,7 @@ use c_checker::ruling::{Ruling, allowed_if, by};
 use c_checker::sort::Sort;
 use c_constants::places;
 use c_syntax::tree::{CType, Expr, Node};
+use c_tree::complaints::{NOT_CONSTANT, WRONG_TYPE};
 use c_type_rules::kinds::copy;
 use c_type_rules::storing;
 use c_types_expr::nodes::type_node;
@@ -83,7 +84,7 @@ fn type_string(
     checker.hush();
     type_node(checker, node)?;
     checker.hear(quiet);
-    let ruling = allowed_if(bytes <= elements, 33, CType::Int(IntKind::Char));
+    let ruling = allowed_if(bytes <= elements, WRONG_TYPE, CType::Int(IntKind::Char));
     checker.rule(ruling, token, pos)?;
     Ok(())
 }
@@ -105,7 +106,7 @@ fn type_value(
     let initialises = !constant || initialises(&a);
     let ruling = fits(kind, a, checker.alloc)?;
     checker.rule(ruling, token, pos)?;
-    checker.demand(initialises, 35, token, pos)
+    checker.demand(initialises, NOT_CONSTANT, token, pos)
 }
 
 // Whether it may stand outside of functions, and in lists (C89, 3.4); nothing is demanded where its type isn't known.
@@ -126,7 +127,7 @@ fn fits(kind: Option<&CType>, a: Sort, alloc: Global) -> Result<Ruling, NoMemory
         None => Ok(Ruling::Unsettled),
         Some(kind) => {
             let kind = copy(kind, alloc)?;
-            Ok(by(33, storing::fits(Some(kind), a.operand())))
+            Ok(by(WRONG_TYPE, storing::fits(Some(kind), a.operand())))
         }
     }
 }

@@ -25,6 +25,7 @@ use c_checker_parts::lengths::{Length, pointed, step_stars};
 use c_syntax::text::Text;
 use c_syntax::tree::{CType, Init, Named, Node, Star};
 use c_tables::tables::VariableRow;
+use c_tree::complaints::DECLARED_TWICE;
 use c_tree::meaning::Entity;
 use c_types_expr::lengths::type_lengths;
 
@@ -77,7 +78,7 @@ pub fn declare_variable(
 {
     match checker.names.find_here(name.bytes()) {
         None => add_variable(checker, name, kind),
-        Some(_) => checker.complain(31, token, pos),
+        Some(_) => checker.complain(DECLARED_TWICE, token, pos),
     }
 }
 

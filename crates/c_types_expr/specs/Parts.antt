@@ -10,6 +10,7 @@ use Rattle.c_tree.specs.Sorts.{pos_in}
 use Rattle.c_tree.specs.Parts.{Length, left_out, length_of, judged_length, Spelled, TypedSpec, unspelled, with_word, with_tagged, static_fits, spelled_rule, Valued, entity_of, declare, after, star_tokens, arrays_of, pointed, is_free, with_field, field_state}
 use Rattle.c_tables.specs.Rows.{text_of, name_pos}
 use Rattle.c_tree.specs.Typing.{type_node, type_specs, type_struct, type_enum, type_lengths, type_fields, type_value}
+use Rattle.c_tree.specs.Complaints.{stray, wrong_type}
 
 -- a specifier, what is spelled with it, and what is known behind it
 pub record Specified : Type 0 where
@@ -21,7 +22,7 @@ abbrev pub with_tag_of : Spelled → TypedSpec → Specified
 with_tag_of a r = record { spec = r.spec; spelled = with_tagged r.kind a; state = r.state }
 
 abbrev pub specified : Bool → Pos → SpecShape → Spelled → State → Specified
-specified alone p (word k) a s = record { spec = word k; spelled = with_word k a; state = step (demand (static_fits k s.file) 37 s.at p s) }
+specified alone p (word k) a s = record { spec = word k; spelled = with_word k a; state = step (demand (static_fits k s.file) stray s.at p s) }
 specified alone p (struct t ds) a s = with_tag_of a (type_struct alone t ds (step s))
 specified alone p (enum t es) a s = with_tag_of a (type_enum t es (step s))
 
@@ -53,7 +54,7 @@ fielded p k (declarator stars x (arrays ls) i) fields s =
     record { name = declarator stars x (arrays l.lengths) i; fields = with_field free (text_of x) t fields; state = step (field_state begun.at (name_pos p x) free t l.state) }
 fielded p k (declarator stars x (function ps) i) fields s =
     let begun = steps (star_tokens stars) s in
-    record { name = declarator stars x (function ps) i; fields = fields; state = complain 33 begun.at (name_pos p x) (step begun) }
+    record { name = declarator stars x (function ps) i; fields = fields; state = complain wrong_type begun.at (name_pos p x) (step begun) }
 
 -- an enumerator, and the value of the next one, if that is clear
 pub record Enumerated : Type 0 where

@@ -18,6 +18,7 @@ use c_checker::sort::copied;
 use c_checker_parts::fields::name_pos;
 use c_checker_parts::lengths::step_stars;
 use c_syntax::tree::{CType, Decl, DeclForm, Declarator, Spec};
+use c_tree::complaints::WRONG_TYPE;
 
 /// Types the lines of a member list in place, and answers its fields.
 #[cycle(typing)]
@@ -111,7 +112,7 @@ fn type_field(
             Ok(())
         }
         DeclForm::Function(_) => {
-            checker.complain(33, token, name_pos(pos, &name.name))?;
+            checker.complain(WRONG_TYPE, token, name_pos(pos, &name.name))?;
             Ok(())
         }
     }

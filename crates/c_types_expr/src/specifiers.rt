@@ -23,6 +23,7 @@ use c_checker_parts::specifiers::{Spelled, static_fits};
 use c_checker_parts::structures::{begun_at, closed, kind_if, structure_kind};
 use c_checker_parts::tags::{opened, step_tag};
 use c_syntax::tree::{CType, Decl, Named, Node, Spec, SpecForm, Star, TypeName};
+use c_tree::complaints::STRAY;
 use std::alloc::Global;
 
 /// Types the lengths, members and enumerators in a type name in place, and answers the type (C89, 3.5.5).
@@ -114,7 +115,7 @@ fn type_spec(
     match &mut spec.form {
         SpecForm::Plain(key) => {
             let fits = static_fits(*key, checker.file);
-            checker.demand(fits, 37, checker.at, pos)?;
+            checker.demand(fits, STRAY, checker.at, pos)?;
             checker.step();
             spelled.add_word(*key);
             Ok(())

@@ -30,6 +30,7 @@ use Rattle.c_types_places.proofs.Fine.{At, Fine, Past, none, one as one_token, �
 use Rattle.c_types_places.proofs.Lengths.{node_place, specs_long, all_specs, stars_past, name_past, name_place, MarkAt, mark_place}
 use Rattle.c_types_places.proofs.Parts.{claim_fine, mention_fine}
 use Rattle.c_types_places.proofs.Nodes.{ended_names, next_name, no_init_past, node_fine, lengths_fine, specs_fine}
+use Rattle.c_tree.specs.Complaints.{declared_twice, stray, wrong_type}
 
 -- ---- lists with what stands behind each part
 
@@ -101,7 +102,7 @@ maybe_init_fine may c k (one_init i) s rest g h w = init_fine c k i (step s) res
 
 mark_fine : {all ts : List Token} (fit : Bool) (x : Option ProbeMark) (s : State) → Fine all s ts → MarkAt all s.at x → Fine all (claim_mark fit x s) ts
 mark_fine fit None s g h = g
-mark_fine fit (Some x) s g h = demand_fine fit 37 s.at x.pos (claim def x.number s.at x.pos s) (claim_fine def x.number s.at x.pos s g h) h
+mark_fine fit (Some x) s g h = demand_fine fit stray s.at x.pos (claim def x.number s.at x.pos s) (claim_fine def x.number s.at x.pos s g h) h
 
 name_fine : {all ts : List Token} (fit : Bool) (x : Option Named) (s : State) (rest : List Token) → Fine all s ts → Written (maybe_named_form x) ts rest → Fine all (claim_name fit x s) ts
 name_fine fit None s rest g w = g
@@ -113,7 +114,7 @@ with_variable_fine x (Some t) s g = g
 
 variable_at_fine : {all ts : List Token} (token : ℕ) (p : Pos) (x : Text) (k : Option TypeOf) (e : Option Entity) (s : State) → Fine all s ts → At all token p → Fine all (variable_at token p x k e s) ts
 variable_at_fine token p x k None s g h = with_variable_fine x k s g
-variable_at_fine token p x k (Some e) s g h = complain_fine 31 token p s g h
+variable_at_fine token p x k (Some e) s g h = complain_fine declared_twice token p s g h
 
 variable_fine : {all ts : List Token} (k : Option TypeOf) (stars : List Star) (x : Option Named) (ls : LengthShapes) (i : MaybeInit) (s : State) (rest : List Token) → Fine all s ts → ShapedDeclarator in_names (declarator stars x (arrays ls) i) → Written (declarator_form (declarator stars x (arrays ls) i)) ts rest → Fine all (type_variable k stars x ls i s).state rest
 variable_fine k stars None ls i s rest g h w = cc (h.0)
@@ -142,7 +143,7 @@ with_parameter_fine x (Some t) s g = g
 
 parameter_at_fine : {all ts : List Token} (token : ℕ) (p : Pos) (x : Text) (k : Option TypeOf) (e : Option Entity) (s : State) → Fine all s ts → At all token p → Fine all (parameter_at token p x k e s) ts
 parameter_at_fine token p x k None s g h = with_parameter_fine x k s g
-parameter_at_fine token p x k (Some e) s g h = complain_fine 31 token p s g h
+parameter_at_fine token p x k (Some e) s g h = complain_fine declared_twice token p s g h
 
 -- without a name, the place is another
 parameter_fine : {all ts : List Token} (token : ℕ) (p : Pos) (x : Option Named) (k : Option TypeOf) (s : State) → Fine all s ts → At all token (name_pos p x) → Fine all (declare_parameter token x k s) ts
@@ -150,7 +151,7 @@ parameter_fine token p None k s g h = g
 parameter_fine token p (Some x) k s g h = parameter_at_fine token x.pos x.text k (find_here x.text s.names) s g h
 
 name_demand_fine : {all ts : List Token} (defining : Bool) (x : Option Named) (token : ℕ) (p : Pos) (s : State) → Fine all s ts → At all token p → Fine all (name_demand defining x token p s) ts
-name_demand_fine true None token p s g h = complain_fine 37 token p s g h
+name_demand_fine true None token p s g h = complain_fine stray token p s g h
 name_demand_fine true (Some x) token p s g h = g
 name_demand_fine false x token p s g h = g
 
@@ -202,11 +203,11 @@ params_fine defining (params (more_decls d more)) s rest g h w = list_fine defin
 
 function_at_fine : {all ts : List Token} (defining : Bool) (token : ℕ) (p : Pos) (x : Text) (e : Entity) (o : Option Entity) (s : State) → Fine all s ts → At all token p → Fine all (function_at defining token p x e o s) ts
 function_at_fine defining token p x e None s g h = g
-function_at_fine defining token p x e (Some o) s g h = demand_fine _ 31 token p s g h
+function_at_fine defining token p x e (Some o) s g h = demand_fine _ declared_twice token p s g h
 
 unclear_fine : {all ts : List Token} (defining : Bool) (token : ℕ) (p : Pos) (x : Text) (o : Option Entity) (s : State) → Fine all s ts → At all token p → Fine all (unclear_at defining token p x o s) ts
 unclear_fine defining token p x None s g h = g
-unclear_fine defining token p x (Some o) s g h = demand_fine _ 31 token p s g h
+unclear_fine defining token p x (Some o) s g h = demand_fine _ declared_twice token p s g h
 
 bodied_fine : {all ts : List Token} (defining : Bool) (x : Text) (s : State) → Fine all s ts → Fine all (bodied defining x s) ts
 bodied_fine true x s g = g
@@ -227,7 +228,7 @@ function_fine defining k stars None ps i s rest g h w = cc (h.0)
 function_fine {all} {ts} defining k stars (Some x) ps i s rest g h w =
     let b = steps (star_tokens stars) s in
     let token = token_of_name b.at (Some x) b in
-    let r = by 33 (result_type (pointed stars k)) in
+    let r = by wrong_type (result_type (pointed stars k)) in
     let v = record (opened_scope (steps (name_tokens (Some x)) (claim_name false (Some x) b))) { file = false } in
     let t = type_params defining ps v in
     let f = signature_of (kind_at r) (all_kinds t.given) in

@@ -23,6 +23,7 @@ use Rattle.c_tree.specs.Parts.{Length, length_rule, value_rule, passes, Spelled,
 use Rattle.c_types_places.proofs.Fine.{At, Fine, Past, none, one, ◌▸◌, past, same, here, placed, all_behind, demand_fine, rule_fine}
 use Rattle.c_types_places.proofs.Lengths.{node_place, form_long, specs_long, all_specs, stars_past, plain_name, tag_past, tag_place}
 use Rattle.c_types_places.proofs.Parts.{entity_fine, called_fine, GivenAt, AllGiven, typed_call_fine, literal_fine, infix_fine, claim_fine, opened_fine, begun_fine, closed_fine, field_fine, declared_fine, enumeration_fine}
+use Rattle.c_tree.specs.Complaints.{not_constant, stray, wrong_type}
 
 -- ---- lists with what stands before or behind each part
 
@@ -65,7 +66,7 @@ mutual
   node_fine {ts = ts} (node p o n f) s rest g h w = form_fine p o f s rest g h.1 (here g w.0 (form_long o f ts rest w.1)) w.1
 
   form_fine : {all ts : List Token} (p o : Pos) (f : ExprShape) (s : State) (rest : List Token) → Fine all s ts → ShapedExpr f → At all s.at p → Written (expr_form o f) ts rest → Fine all (typed_form p o f s).state rest
-  form_fine p o (leaf (number t)) s rest g h q w = past (demand_fine _ 33 s.at p s g q) (one w.1)
+  form_fine p o (leaf (number t)) s rest g h q w = past (demand_fine _ wrong_type s.at p s g q) (one w.1)
   form_fine p o (leaf (char c)) s rest g h q w = past g (one w.1)
   form_fine p o (leaf (str t)) s rest g h q w = past (rule_fine _ s.at p (with_literal t s) (literal_fine t s g) q) (one w.1)
   form_fine p o (leaf (name x)) s rest g h q w = entity_fine p (find x s.names) s g q (one w.1)
@@ -197,8 +198,8 @@ mutual
   pub specs_fine : {all ts : List Token} (alone : Bool) (x : SpecShapes) (a : Spelled) (s : State) (rest : List Token) → Fine all s ts → AllSpecs x → Written (specs_form x) ts rest → Fine all (type_specs alone x a s).state rest
   specs_fine alone no_specs a s rest g h w = same g w
   specs_fine alone (more_specs p (word k) more) a s rest g h w =
-      let v = demand (static_fits k s.file) 37 s.at p s in
-      let f = past (demand_fine (static_fits k s.file) 37 s.at p s g (placed g w.first)) (one w.first.1) in
+      let v = demand (static_fits k s.file) stray s.at p s in
+      let f = past (demand_fine (static_fits k s.file) stray s.at p s g (placed g w.first)) (one w.first.1) in
       specs_fine alone more (with_word k a) (step v) rest f h.1 w.second
   specs_fine alone (more_specs p (struct t ds) more) a s rest g h w =
       let r = type_struct alone t ds (step s) in
@@ -281,7 +282,7 @@ mutual
       rows_fine (after r.value) more (step d) rest (past k n.first) h.2 n.second
 
   value_fine : {all ts : List Token} (token : ℕ) (p : Pos) (next : Option ℤ) (v : MaybeNode) (s : State) (rest : List Token) → Fine all s ts → At all token p → ShapedMaybe 2 v → Written (value_form v) ts rest → Fine all (type_value token p next v s).state rest
-  value_fine token p next no_node s rest g q h w = same (demand_fine (not (passes next)) 35 token p s g q) w
+  value_fine token p next no_node s rest g q h w = same (demand_fine (not (passes next)) not_constant token p s g q) w
   value_fine token p next (one_node a) s rest g q h w =
       let t = type_node a (step s) in
       let f = past g (one w.first) in

@@ -24,15 +24,16 @@ use Rattle.c_tree.specs.Operators.{named_variable, named_parameter, named_entity
 use Rattle.c_tree.specs.Parts.{known_structure, listed_structure, Opened, opened, begun_at, closed, field_state, declared_at, known_enumeration, listed_enumeration, enumeration}
 use Rattle.c_types_places.proofs.Fine.{At, Fine, Past, past, complain_fine, demand_fine, rule_fine, pick_fine}
 use Rattle.c_types_places.proofs.Lengths.{TagAt}
+use Rattle.c_tree.specs.Complaints.{declared_twice, stray, undefined, unknown_name, wrong_arg_count, wrong_type}
 
 -- ---- names, calls and strings
 
 variable_fine : {all ts rest : List Token} (p : Pos) (n : ℕ) (v : Option VariableShape) (s : State) → Fine all s ts → At all s.at p → Past 1 ts rest → Fine all (named_variable p n v s).state rest
-variable_fine p n None s g h t = past (complain_fine 30 s.at p s g h) t
+variable_fine p n None s g h t = past (complain_fine unknown_name s.at p s g h) t
 variable_fine p n (Some v) s g h t = past g t
 
 parameter_fine : {all ts rest : List Token} (p : Pos) (k : Option TypeOf) (s : State) → Fine all s ts → At all s.at p → Past 1 ts rest → Fine all (named_parameter p k s).state rest
-parameter_fine p None s g h t = past (complain_fine 30 s.at p s g h) t
+parameter_fine p None s g h t = past (complain_fine unknown_name s.at p s g h) t
 parameter_fine p (Some k) s g h t = past g t
 
 pub entity_fine : {all ts rest : List Token} (p : Pos) (e : Option Entity) (s : State) → Fine all s ts → At all s.at p → Past 1 ts rest → Fine all (named_entity p e s).state rest
@@ -40,22 +41,22 @@ entity_fine p (Some (entity.Variable n)) s g h t = variable_fine p n (row s.tabl
 entity_fine p (Some (entity.Parameter n)) s g h t = parameter_fine p (row s.params n) s g h t
 entity_fine p (Some (entity.Constant v)) s g h t = past g t
 entity_fine p (Some entity.Unknown) s g h t = past g t
-entity_fine p (Some (entity.Function n)) s g h t = past (complain_fine 30 s.at p s g h) t
-entity_fine p (Some (entity.Builtin b)) s g h t = past (complain_fine 30 s.at p s g h) t
-entity_fine p None s g h t = past (complain_fine 30 s.at p s g h) t
+entity_fine p (Some (entity.Function n)) s g h t = past (complain_fine unknown_name s.at p s g h) t
+entity_fine p (Some (entity.Builtin b)) s g h t = past (complain_fine unknown_name s.at p s g h) t
+entity_fine p None s g h t = past (complain_fine unknown_name s.at p s g h) t
 
 pub mention_fine : {all ts : List Token} (x : Text) (k : TypeOf) (ks : List TypeOf) (n : Option ℕ) (s : State) → Fine all s ts → Fine all (numbered_or n s (pushed_function x k ks s)).state ts
 mention_fine x k ks (Some n) s g = g
 mention_fine x k ks None s g = g
 
 pub called_fine : {all ts : List Token} (p : Pos) (e : Option Entity) (s : State) → Fine all s ts → At all s.at p → Fine all (called_entity p e s).state ts
-called_fine p (Some (entity.Function n)) s g h = demand_fine (counts s.known n) 40 s.at p s g h
+called_fine p (Some (entity.Function n)) s g h = demand_fine (counts s.known n) undefined s.at p s g h
 called_fine p (Some (entity.Builtin b)) s g h = mention_fine (builtin_name b) (builtin_result b) (builtin_params b) (function_number (builtin_name b) (builtin_result b) (builtin_params b) s.tables.functions) s g
 called_fine p (Some entity.Unknown) s g h = g
-called_fine p (Some (entity.Variable n)) s g h = complain_fine 30 s.at p s g h
-called_fine p (Some (entity.Parameter n)) s g h = complain_fine 30 s.at p s g h
-called_fine p (Some (entity.Constant v)) s g h = complain_fine 30 s.at p s g h
-called_fine p None s g h = complain_fine 30 s.at p s g h
+called_fine p (Some (entity.Variable n)) s g h = complain_fine unknown_name s.at p s g h
+called_fine p (Some (entity.Parameter n)) s g h = complain_fine unknown_name s.at p s g h
+called_fine p (Some (entity.Constant v)) s g h = complain_fine unknown_name s.at p s g h
+called_fine p None s g h = complain_fine unknown_name s.at p s g h
 
 -- each argument with its first token
 abbrev pub GivenAt : List Token → Given → Type 0
@@ -68,13 +69,13 @@ fit_fine : {all ts : List Token} (ks : List TypeOf) (gs : List Given) (s : State
 fit_fine [] gs s g h = g
 fit_fine (k ∷ ks) [] s g h = g
 fit_fine (k ∷ ks) (x ∷ gs) s g h =
-    let r = by 33 (fits_type (Some k) x.kind x.null) in
+    let r = by wrong_type (fits_type (Some k) x.kind x.null) in
     fit_fine ks gs (rule r x.token x.pos s) (rule_fine r x.token x.pos s g h.0) h.1
 
 call_fine : {all ts rest : List Token} (p : Pos) (token : ℕ) (clean : Bool) (n : ℕ) (f : Option FunctionShape) (gs : List Given) (s : State) → Fine all s ts → At all token p → AllGiven all gs → Past 1 ts rest → Fine all (call_of p token clean n f gs s).state rest
 call_fine p token clean n None gs s g h q t = past g t
 call_fine p token clean n (Some f) gs s g h q t =
-    past (pick_fine (clean && not (nat_eq (length f.params) (length gs))) (complain 34 token p s) (fit_all f.params gs s) (complain_fine 34 token p s g h) (fit_fine f.params gs s g q)) t
+    past (pick_fine (clean && not (nat_eq (length f.params) (length gs))) (complain wrong_arg_count token p s) (fit_all f.params gs s) (complain_fine wrong_arg_count token p s g h) (fit_fine f.params gs s g q)) t
 
 pub typed_call_fine : {all ts rest : List Token} (p : Pos) (token : ℕ) (clean : Bool) (f : Option ℕ) (gs : List Given) (s : State) → Fine all s ts → At all token p → AllGiven all gs → Past 1 ts rest → Fine all (typed_call p token clean f gs s).state rest
 typed_call_fine p token clean None gs s g h q t = past g t
@@ -96,8 +97,8 @@ infix_fine token o first p comma a b s g h q = g
 
 claimed_fine : {all ts : List Token} (u : Probing) (x : Text) (token : ℕ) (p : Pos) (n m : Option ℕ) (s : State) → Fine all s ts → At all token p → Fine all (claimed u x token p n m s) ts
 claimed_fine u x token p (Some n) None s g h = g
-claimed_fine u x token p (Some n) (Some m) s g h = complain_fine 37 token p s g h
-claimed_fine u x token p None m s g h = complain_fine 37 token p s g h
+claimed_fine u x token p (Some n) (Some m) s g h = complain_fine stray token p s g h
+claimed_fine u x token p None m s g h = complain_fine stray token p s g h
 
 pub claim_fine : {all ts : List Token} (u : Probing) (x : Text) (token : ℕ) (p : Pos) (s : State) → Fine all s ts → At all token p → Fine all (claim u x token p s) ts
 claim_fine u x token p s g h = claimed_fine u x token p (probe_number_of x) (named x (seen_of u s.seen)) s g h
@@ -107,7 +108,7 @@ claim_fine u x token p s g h = claimed_fine u x token p (probe_number_of x) (nam
 known_fine : {all ts : List Token} (p : Pos) (x : Text) (t : Option Tag) (s : State) → Fine all s ts → At all s.at p → Fine all (known_structure p x t s).state ts
 known_fine p x None s g h = g
 known_fine p x (Some (tag.Structure n)) s g h = g
-known_fine p x (Some tag.Enumeration) s g h = complain_fine 31 s.at p s g h
+known_fine p x (Some tag.Enumeration) s g h = complain_fine declared_twice s.at p s g h
 
 pick_opened : {all ts : List Token} (b : Bool) (x y : Opened) → Fine all x.state ts → Fine all y.state ts → Fine all (if b then x else y).state ts
 pick_opened true x y p q = p
@@ -116,8 +117,8 @@ pick_opened false x y p q = q
 listed_fine : {all ts : List Token} (p : Pos) (x : Text) (t : Option Tag) (s : State) → Fine all s ts → At all s.at p → Fine all (listed_structure p x t s).state ts
 listed_fine p x None s g h = g
 listed_fine p x (Some (tag.Structure n)) s g h =
-    pick_opened (is_set (row s.begun n)) (record { number = None; state = complain 31 s.at p s }) (record { number = Some n; state = s }) (complain_fine 31 s.at p s g h) g
-listed_fine p x (Some tag.Enumeration) s g h = complain_fine 31 s.at p s g h
+    pick_opened (is_set (row s.begun n)) (record { number = None; state = complain declared_twice s.at p s }) (record { number = Some n; state = s }) (complain_fine declared_twice s.at p s g h) g
+listed_fine p x (Some tag.Enumeration) s g h = complain_fine declared_twice s.at p s g h
 
 pub opened_fine : {all ts : List Token} (alone list : Bool) (x : Option Named) (s : State) → Fine all s ts → TagAt all s.at x → Fine all (opened alone list x s).state ts
 opened_fine alone true None s g h = g
@@ -134,20 +135,20 @@ closed_fine None fields s g = g
 closed_fine (Some n) fields s g = g
 
 pub field_fine : {all ts : List Token} (token : ℕ) (p : Pos) (free : Bool) (k : Option TypeOf) (s : State) → Fine all s ts → At all token p → Fine all (field_state token p free k s) ts
-field_fine token p free k s g h = rule_fine (of_kind k (whole s.rooms)) token p (demand free 31 token p s) (demand_fine free 31 token p s g h) h
+field_fine token p free k s g h = rule_fine (of_kind k (whole s.rooms)) token p (demand free declared_twice token p s) (demand_fine free declared_twice token p s g h) h
 
 pub declared_fine : {all ts : List Token} (token : ℕ) (p : Pos) (x : Text) (e : Entity) (o : Option Entity) (s : State) → Fine all s ts → At all token p → Fine all (declared_at token p x e o s) ts
 declared_fine token p x e None s g h = g
-declared_fine token p x e (Some other) s g h = complain_fine 31 token p s g h
+declared_fine token p x e (Some other) s g h = complain_fine declared_twice token p s g h
 
 listed_enum_fine : {all ts : List Token} (p : Pos) (x : Text) (t : Option Tag) (s : State) → Fine all s ts → At all s.at p → Fine all (listed_enumeration p x t s) ts
 listed_enum_fine p x None s g h = g
-listed_enum_fine p x (Some t) s g h = complain_fine 31 s.at p s g h
+listed_enum_fine p x (Some t) s g h = complain_fine declared_twice s.at p s g h
 
 known_enum_fine : {all ts : List Token} (p : Pos) (t : Option Tag) (s : State) → Fine all s ts → At all s.at p → Fine all (known_enumeration p t s) ts
 known_enum_fine p (Some tag.Enumeration) s g h = g
-known_enum_fine p (Some (tag.Structure n)) s g h = complain_fine 31 s.at p s g h
-known_enum_fine p None s g h = complain_fine 30 s.at p s g h
+known_enum_fine p (Some (tag.Structure n)) s g h = complain_fine declared_twice s.at p s g h
+known_enum_fine p None s g h = complain_fine unknown_name s.at p s g h
 
 pub enumeration_fine : {all ts : List Token} (list : Bool) (x : Option Named) (s : State) → Fine all s ts → TagAt all s.at x → Fine all (enumeration list x s) ts
 enumeration_fine true None s g h = g

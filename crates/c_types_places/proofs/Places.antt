@@ -27,6 +27,7 @@ use Rattle.c_types_places.proofs.Lengths.{specs_long, all_specs}
 use Rattle.c_types_places.proofs.Nodes.{specs_fine}
 use Rattle.c_types_places.proofs.Declared.{with_variable_fine, function_fine, decl_fine}
 use Rattle.c_types_places.proofs.Stated.{marks_fine, compound_fine}
+use Rattle.c_tree.specs.Complaints.{no_main, stray}
 
 -- ---- external declarations
 
@@ -83,7 +84,7 @@ line_fine : {all ts : List Token} (l : Option ProgramLine) (s : State) (rest : L
 line_fine None s rest g w = same g w
 line_fine (Some l) s rest g w =
     let i = w.second.first in
-    past (demand_fine (is_some (digest_of l.digest)) 37 s.at l.pos s g (placed g w.first)) (one w.first.1 ▸ one i.first ▸ one i.second.first ▸ one i.second.second ▸ one w.second.second)
+    past (demand_fine (is_some (digest_of l.digest)) stray s.at l.pos s g (placed g w.first)) (one w.first.1 ▸ one i.first ▸ one i.second.first ▸ one i.second.second ▸ one w.second.second)
 
 last_in : (all : List Token) (n : ℕ) → n + 1 ≡ length all → At all n (last_place all)
 last_in [] n h = absurd (omega arith)
@@ -105,7 +106,7 @@ unit_fine known u ts few shaped is =
     let g : Fine ts (start known) ts = record { front = []; split = refl; count = refl; few = few; right = tt } in
     let f = externals_fine u.externals (type_line u.line (start known)) [] (line_fine u.line (start known) w.middle g w.first) shaped.all w.second in
     let n = line_long u.line ts w.middle (externals_long u.externals w.middle [] shaped.some shaped.all w.second) w.first in
-    demand_fine (any_main t.state.tables.functions) 38 (t.state.at - 1) u.last t.state f (last_read f n is.last)
+    demand_fine (any_main t.state.tables.functions) no_main (t.state.at - 1) u.last t.state f (last_read f n is.last)
 
 pub all_at_their_tokens : AllAtTheirTokens
 all_at_their_tokens u ts few shaped is = All-from_recursion (IsAtItsToken ts) (complaints u) (unit_fine (Some (bodies u)) u ts few shaped is).right

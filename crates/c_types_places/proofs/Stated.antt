@@ -20,6 +20,7 @@ use Rattle.c_types_places.proofs.Lengths.{node_place}
 use Rattle.c_types_places.proofs.Parts.{claim_fine}
 use Rattle.c_types_places.proofs.Nodes.{node_fine}
 use Rattle.c_types_places.proofs.Declared.{decls_fine}
+use Rattle.c_tree.specs.Complaints.{case_twice, stray}
 
 maybe_fine : {all ts : List Token} (l : ℕ) (e : MaybeNode) (s : State) (rest : List Token) → Fine all s ts → ShapedMaybe l e → Written (maybe_node_form e) ts rest → Fine all (type_maybe e s).state rest
 maybe_fine l no_node s rest g h w = same g w
@@ -51,12 +52,12 @@ marks_fine (x ∷ ms) s rest g w =
     marks_fine ms (steps 5 v) rest f l.second
 
 case_fine : {all ts : List Token} (token : ℕ) (p : Pos) (o : Option Labels) (v : Option ℤ) (s : State) → Fine all s ts → At all token p → Fine all (case_state token p o v s) ts
-case_fine token p None v s g h = complain_fine 37 token p s g h
-case_fine token p (Some l) v s g h = demand_fine _ 36 token p s g h
+case_fine token p None v s g h = complain_fine stray token p s g h
+case_fine token p (Some l) v s g h = demand_fine _ case_twice token p s g h
 
 default_fine : {all ts : List Token} (token : ℕ) (p : Pos) (o : Option Labels) (s : State) → Fine all s ts → At all token p → Fine all (default_state token p o s) ts
-default_fine token p None s g h = complain_fine 37 token p s g h
-default_fine token p (Some l) s g h = demand_fine _ 36 token p s g h
+default_fine token p None s g h = complain_fine stray token p s g h
+default_fine token p (Some l) s g h = demand_fine _ case_twice token p s g h
 
 labels_fine : {all ts : List Token} (o : Option Labels) (ls : List LabelShape) (s : State) (rest : List Token) → Fine all s ts → ShapedLabels ls → Written (labels_form ls) ts rest → Fine all (type_labels o ls s).state rest
 labels_fine o [] s rest g h w = same g w
@@ -122,8 +123,8 @@ mutual
       let b = past g (one w.first ▸ one i.first) in
       let f = switch_fine e (steps 2 s) i.second.middle b h.0 i.second.first in
       past (items_fine (in_switch c) (Some (no_labels r)) items (steps 2 (rule r (steps 2 s).at (pos_in t.node) t.state)) l.second.middle (past f (one i.second.second ▸ one l.first)) h.1 l.second.first) (one l.second.second)
-  body_fine c p break s rest g h q w = past (demand_fine c.breakable 37 s.at p s g (here g q (long (one w.first)))) (one w.first ▸ one w.second)
-  body_fine c p continue s rest g h q w = past (demand_fine c.loop 37 s.at p s g (here g q (long (one w.first)))) (one w.first ▸ one w.second)
+  body_fine c p break s rest g h q w = past (demand_fine c.breakable stray s.at p s g (here g q (long (one w.first)))) (one w.first ▸ one w.second)
+  body_fine c p continue s rest g h q w = past (demand_fine c.loop stray s.at p s g (here g q (long (one w.first)))) (one w.first ▸ one w.second)
   body_fine c p (return e) s rest g h q w =
       let f = result_fine s.at p c.result e (step s) w.middle (past g (one w.first.first)) (here g q (long (one w.first.first))) h w.first.second in
       past f (one w.second)

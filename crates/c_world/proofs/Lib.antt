@@ -7,3 +7,4 @@ pub mod Marked
 pub mod Given
 pub mod Literals
 pub mod Declares
+pub mod Shown

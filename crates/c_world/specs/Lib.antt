@@ -2,3 +2,4 @@ pub mod Names
 pub mod Lives
 pub mod Steps
 pub mod World
+pub mod Shown

@@ -16,6 +16,7 @@ mod entering;
 mod filling;
 mod objects;
 mod scopes;
+mod showing;
 mod telling;
 mod writing;
 
@@ -27,9 +28,17 @@ use c_syntax::text::Text;
 use c_tree::program::Program;
 use std::alloc::Global;
 
+/// An instance that was made, and how many cells it has.
+#[derive(Clone, Copy, Drop)]
+struct Made {
+    instance: u64,
+    cells: u32,
+}
+
 /// A run of a program: where its functions stand, its store, what names stand for in it, what is left of the input, the output, the turns that are
-/// left, the numbers of the last activation and of the last instance, how many cells each variable has, and the events that
-/// aren't told yet.
+/// left, the numbers of the last activation and of the last instance, how many cells each variable has, and what the probes
+/// are told: the events that are pending; the instances that are fresh, of which they weren't told yet; those that were
+/// shown to them, in the order of their numbers, and not yet told as ended; and whether a scope was closed since.
 #[derive(Drop)]
 pub struct World<'p> {
     alloc: Global,
@@ -45,6 +54,9 @@ pub struct World<'p> {
     made: u64,
     sizes: Vec<u32>,
     pending: Vec<Event>,
+    fresh: Vec<Made>,
+    shown: Vec<u64>,
+    closed: bool,
     ghost living: { Living (suc store.count) (call_instances names.calls) store } by { Living-prop (suc store.count) (call_instances names.calls) store },
     ghost counted: { made ≡ store.count },
     ghost most: { store.most ≡ 1048576 },

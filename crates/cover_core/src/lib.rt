@@ -1,4 +1,4 @@
-//! What a run covers: the facts of its events.
+//! What a run covers, kept as it goes: the facts of its events, and no event.
 #![tactic(auto)]
 
 pub mod collector;

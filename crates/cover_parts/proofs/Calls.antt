@@ -4,9 +4,9 @@ use Rattle.std.specs.Prelude.{nat_eq, IsSome, OnOk, OnErr, slice_get, slice_set,
 use Rattle.std.proofs.lemmas.Bool.{eqb-true}
 use Rattle.c_events.specs.declared.events.Cell.{Cell}
 use Rattle.c_base.specs.declared.place.NoMemory.{NoMemory}
-use Rattle.cover_parts.specs.Rows.{Slot, Table, IsTable, cell_count, word_of, put, find, replace, without, definition_of}
+use Rattle.cover_parts.specs.Rows.{Slot, Table, IsTable, cell_count, word_of, put, find, replace, without}
 use Rattle.cover_parts.specs.Lives.{lives, cells_of, less}
-use Rattle.cover_parts.proofs.Places.{put_at, put_other, new_other, new_at, ended_other, word_below}
+use Rattle.cover_parts.proofs.Places.{put_at, put_none, put_other, new_other, new_at, ended_other, word_below}
 use Rattle.cover_parts.proofs.Cases.{by_test, not_true}
 
 pub cells_counted : (live : List Slot) → cell_count live ≡ cells_of (lives live)
@@ -21,14 +21,6 @@ word (Some w) h = (w, refl)
 
 is_word : (o : Option (Option ℕ)) (w : Option ℕ) → o ≡ Some w → IsSome o
 is_word o w e = rw e refl
-
-pub word_none : (o : Option (Option ℕ)) → IsSome o → None ≡ definition_of o → o ≡ Some None
-word_none None h e = absurd (cc)
-word_none (Some w) h e = ap (λ (x : Option ℕ). Some x) (sym e)
-
-pub word_some : (o : Option (Option ℕ)) (d : ℕ) → Some d ≡ definition_of o → o ≡ Some (Some d)
-word_some None d e = absurd (cc)
-word_some (Some w) d e = ap (λ (x : Option ℕ). Some x) (sym e)
 
 pub taken_below : (R : Table) (c : Cell) → IsTable R → IsSome (word_of R.live c) → c.instance ≤ R.top
 taken_below R c t h = let w = word (word_of R.live c) h in word_below R c w.0 t w.1
@@ -50,6 +42,14 @@ put_stays R R' c b d q h = subst (λ (x : Table). IsSome (word_of x.live b)) (sy
         let one : ◌≡◌ {A = Cell} c (record { instance = b.instance; index = c.index }) = ap (λ (x : ℕ). record { instance = x; index = c.index }) p in
         let two : ◌≡◌ {A = Cell} (record { instance = b.instance; index = c.index }) b = ap (λ (x : ℕ). record { instance = b.instance; index = x }) q in
         one ∙ two
+
+-- a definition of a cell that isn't taken changes nothing
+pub put_untaken : (R R' : Table) (c : Cell) (d : ℕ) → R' ≡ record { top = R.top; live = put c d R.live } → (IsSome (word_of R.live c) → ⊥) → R' ≡ R
+put_untaken R R' c d q n = q ∙ ap (λ (l : List Slot). record { top = R.top; live = l }) (put_none R.live c d (none (word_of R.live c) n))
+  where
+    none : (o : Option (Option ℕ)) → (IsSome o → ⊥) → o ≡ None
+    none None n = refl
+    none (Some w) n = absurd (n refl)
 
 abbrev no_word : Option ℕ
 no_word = None

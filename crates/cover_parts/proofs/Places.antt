@@ -1,7 +1,7 @@
 -- Where a live instance stands, and what the words' changes leave.
-use Rattle.std.proofs.Common.{◌≡◌, ◌≢◌, ℕ, zero, suc, ◌+◌, ◌-◌, ◌<◌, ◌≤◌, List, [], ◌∷◌, ◌++◌, length, get_or, take, drop, Option, Some, None, refl, sym, ap, ◌∙◌, subst, arith, eq-eqb, ne_eqb, nat_eq, if◌then◌else◌}
+use Rattle.std.proofs.Common.{◌≡◌, ◌≢◌, ℕ, zero, suc, ◌+◌, ◌-◌, ◌<◌, ◌≤◌, List, [], ◌∷◌, ◌++◌, length, get_or, take, drop, Bool, Option, Some, None, refl, sym, ap, ◌∙◌, subst, arith, eq-eqb, ne_eqb, nat_eq, if◌then◌else◌}
 use Rattle.std.proofs.lemmas.Bool.{eqb-true}
-use Rattle.std.specs.Prelude.{◌⊎◌, map, slice_get, slice_set}
+use Rattle.std.specs.Prelude.{◌⊎◌, ◌↔◌, IsTrue, IsSome, map, slice_get, slice_set}
 use Rattle.cover_parts.specs.declared.rows.Row.{Row}
 use Rattle.c_events.specs.declared.events.Cell.{Cell}
 use Rattle.cover_parts.specs.Rows.{put, word_of, word_in, Slot, Table, slot_of, words_in, cell_count, find, replace, without, Ascending, IsPlace}
@@ -136,6 +136,22 @@ put_done now top all at d i item y view place e sy =
     let Q : Table → Type 0 = λ t. ◌≡◌ {A = Table} (record { top = top; live = map slot_of (slice_set all i y) }) (record { top = t.top; live = put at d t.live }) in
     subst Q view (ap (λ (l : List Slot). record { top = top; live = l }) g)
 
+some_within : (words : List (Option ℕ)) (k : ℕ) → (k < length words → IsSome (slice_get words k)) × (IsSome (slice_get words k) → k < length words)
+some_within [] k = (λ h. absurd (omega (arith, h)), λ h. absurd (cc))
+some_within (x ∷ words) zero = (λ h. refl, λ h. omega arith)
+some_within (x ∷ words) (suc k) = let w = some_within words k in (λ h. w.0 (omega (arith, h)), λ h. omega (arith, w.1 h))
+
+-- the cell has a word where its instance has that many cells
+pub put_there : (now : Table) (top : ℕ) (all : List Row) (at : Cell) (i : ℕ) (item : Row) (there : Bool) → record { top = top; live = map slot_of all } ≡ now → IsPlace at.instance now.live (Some i) → item ≡ get_or all i item → IsTrue there ↔ (at.index < length (words_in item.words)) → IsTrue there ↔ IsSome (word_of now.live at)
+put_there now top all at i item there view place e t =
+    let P : Table → Type 0 = λ t. IsPlace at.instance t.live (Some i) in
+    let el : IsPlace at.instance (map slot_of all) (Some i) = subst P (sym view) place in
+    let f : find at.instance (map slot_of all) ≡ Some (slot_of item) = el.2 ∙ ap (λ (s : Slot). Some s) (same_slot all i item el.0 el.1 e) in
+    let w = some_within (words_in item.words) at.index in
+    let Q : Option Slot → Type 0 = λ o. IsTrue there ↔ IsSome (word_in o at.index) in
+    let R : Table → Type 0 = λ t. IsTrue there ↔ IsSome (word_of t.live at) in
+    subst R view (subst Q (sym f) (λ h. w.0 (t.0 h), λ h. t.1 (w.1 h)))
+
 -- the instance of that number was taken out
 pub record Ended (all new : List Row) (live : List Slot) (n : ℕ) (item : Row) : Type 0 where
   pub counted : cell_count (map slot_of all) ≡ length (words_in item.words) + cell_count (map slot_of new)
@@ -193,6 +209,25 @@ put_at live c d w h = go (find c.instance live) refl
     go (Some s) e =
         let k : slice_get s.words c.index ≡ Some w = rw e at h in
         rw (e, find_replaced c.instance (record { number = s.number; words = slice_set s.words c.index (Some d) }) live s (find_number c.instance live s e) e) (get_set s.words c.index (Some d) w k)
+
+set_none : (words : List (Option ℕ)) (k : ℕ) (v : Option ℕ) → slice_get words k ≡ None → slice_set words k v ≡ words
+set_none [] k v h = refl
+set_none (x ∷ words) zero v h = absurd (cc)
+set_none (x ∷ words) (suc k) v h = ap (λ l. x ∷ l) (set_none words k v h)
+
+replace_same : (n : ℕ) (s : Slot) (live : List Slot) → find n live ≡ Some s → replace n s live ≡ live
+replace_same n s [] f = refl
+replace_same n s (x ∷ rest) f = by_test (nat_eq x.number n) (λ b. let k : Some x ≡ Some s = rw b at f in let e : x ≡ s = cc in rw b (ap (λ y. y ∷ rest) (sym e))) (λ b. rw b (ap (λ l. x ∷ l) (replace_same n s rest (rw b at f))))
+
+-- a cell without word is left as it is
+pub put_none : (live : List Slot) (c : Cell) (d : ℕ) → word_of live c ≡ None → put c d live ≡ live
+put_none live c d h = go (find c.instance live) refl
+  where
+    go : (o : Option Slot) → find c.instance live ≡ o → put c d live ≡ live
+    go None e = rw e refl
+    go (Some s) e =
+        let k : slice_get s.words c.index ≡ None = rw e at h in
+        rw e (ap (λ w. replace c.instance (record { number = s.number; words = w }) live) (set_none s.words c.index (Some d) k) ∙ replace_same c.instance s live e)
 
 pub put_other : (live : List Slot) (c b : Cell) (d : ℕ) → (c.instance ≢ b.instance) ⊎ (c.index ≢ b.index) → word_of (put c d live) b ≡ word_of live b
 put_other live c b d ne = go (find c.instance live) refl

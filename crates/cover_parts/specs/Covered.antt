@@ -1,5 +1,5 @@
 -- What a list of events covers, by positions.
-use Rattle.std.specs.Prelude.{◌≡◌, ℕ, ◌<◌, List, [], ◌∷◌, ◌++◌, length, slice_get, Option, Some, None, ⊤}
+use Rattle.std.specs.Prelude.{◌≡◌, ℕ, ◌<◌, List, [], ◌∷◌, ◌++◌, length, slice_get, Option, Some, None}
 use Rattle.c_events.specs.declared.events.Cell.{Cell}
 use Rattle.c_events.specs.declared.events.Event.{Event}
 use Rattle.c_events.specs.declared.events.Event.TheVariants as event
@@ -48,10 +48,3 @@ LastIs events c (Some d) = (h : ℕ) × At events h (event.Def d c) × ((j e : �
 pub record IsFree (owner : ℕ → Option ℕ) (events : List Event) (e : Event) : Type 0 where
   pub facts : (f : Fact) → Covered owner (events ++ e ∷ []) f → Covered owner events f
   pub pending : (k a d u : ℕ) → IsPending owner (events ++ e ∷ []) k a d u → IsPending owner events k a d u
-
--- the cell that the event speaks of is one of these
-abbrev pub IsOf : (Cell → Type 0) → Event → Type 0
-IsOf cells (event.Block k) = ⊤
-IsOf cells (event.Def d c) = cells c
-IsOf cells (event.Use u c a) = cells c
-IsOf cells (event.Test k o a) = ⊤

@@ -48,10 +48,6 @@ word_in (Some s) k = slice_get s.words k
 abbrev pub word_of : List Slot → Cell → Option (Option ℕ)
 word_of live c = word_in (find c.instance live) c.index
 
-abbrev pub definition_of : Option (Option ℕ) → Option ℕ
-definition_of None = None
-definition_of (Some word) = word
-
 -- the instance of that number, replaced
 abbrev pub replace : ℕ → Slot → List Slot → List Slot
 replace n t [] = []

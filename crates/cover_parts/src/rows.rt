@@ -1,7 +1,7 @@
 //! The live instances, and for each of their cells its last definition.
 
-ghost use Rattle.std.specs.Prelude.{◌≡◌, ◌+◌, ◌<◌, ℕ, suc, length, take, drop, ◌++◌, [], ◌∷◌, map, slice_index_or, slice_get, slice_set, replicate, Some, None, IfOk, OnOk, OnErr};
-ghost use Rattle.cover_parts.specs.Rows.{words_in, slot_of, Ascending, IsPlace, definition_of};
+ghost use Rattle.std.specs.Prelude.{◌≡◌, ◌↔◌, ◌+◌, ◌<◌, ℕ, suc, length, take, drop, ◌++◌, [], ◌∷◌, map, slice_index_or, slice_get, slice_set, replicate, Some, None, IsTrue, IsSome, IfOk, OnOk, OnErr};
+ghost use Rattle.cover_parts.specs.Rows.{words_in, slot_of, Ascending, IsPlace};
 
 use c_base::place::NoMemory;
 use c_events::events::Cell;
@@ -35,16 +35,16 @@ impl Words {
         }
     }
 
-    /// The definition in the word of the cell with that index, from 0; None where it has none, or there is no such cell.
+    /// The word of the cell with that index, from 0; None where there is no such cell.
     #[inline(always)]
-    pub fn get(&self, index: usize) -> Option<u16>
-        ensures { result ≡ definition_of (slice_get (words_in self.now) index) }
+    pub fn get(&self, index: usize) -> Option<Option<u16>>
+        ensures { result ≡ slice_get (words_in self.now) index }
     {
         match self {
-            Words::One(word) => { if index == 0 { *word } else { None } }
+            Words::One(word) => { if index == 0 { Some(*word) } else { None } }
             Words::Many(words) => {
                 if index < words.len() {
-                    words[index]
+                    Some(words[index])
                 } else {
                     None
                 }
@@ -52,20 +52,27 @@ impl Words {
         }
     }
 
-    /// Puts a definition into the word of the cell with that index, from 0, where there is such a cell.
+    /// Puts a definition into the word of the cell with that index, from 0; false where there is no such cell.
     #[inline(always)]
-    pub fn set(&mut self, index: usize, definition: u16)
-        ensures { words_in self.new ≡ slice_set (words_in self.old) index (Some definition) }
+    pub fn set(&mut self, index: usize, definition: u16) -> bool
+        ensures is { words_in self.new ≡ slice_set (words_in self.old) index (Some definition) }
+        ensures there { IsTrue result ↔ (index < length (words_in self.old)) }
     {
         match self {
             Words::One(_) => {
                 if index == 0 {
                     *self = Words::One(Some(definition));
+                    true
+                } else {
+                    false
                 }
             }
             Words::Many(words) => {
                 if index < words.len() {
                     words[index] = Some(definition);
+                    true
+                } else {
+                    false
                 }
             }
         }
@@ -93,8 +100,8 @@ impl Model for Rows {
 }
 
 impl Rows {
-    ghost use Rattle.std.specs.Prelude.{◌≡◌, ◌++◌, ◌∷◌, [], ◌<◌, OnOk, OnErr, replicate, None};
-    ghost use Rattle.cover_parts.specs.Rows.{Table, IsTable, cell_count, word_of, definition_of, put, without, IsPlace};
+    ghost use Rattle.std.specs.Prelude.{◌≡◌, ◌↔◌, ◌++◌, ◌∷◌, [], ◌<◌, OnOk, OnErr, IsTrue, IsSome, replicate, None};
+    ghost use Rattle.cover_parts.specs.Rows.{Table, IsTable, cell_count, word_of, put, without, IsPlace};
 
     /// No instance was made yet.
     pub fn new(alloc: Global) -> Rows
@@ -124,10 +131,10 @@ impl Rows {
         self.held
     }
 
-    /// The last definition of a cell; None where it has none, or its instance does not live or has no such cell.
-    #[inline]
-    pub fn definition(&self, at: Cell) -> Option<u16>
-        ensures is { result ≡ definition_of (word_of self.now.live at) }
+    /// The word of a cell: its last definition, where it has one. None where its instance does not live or has no such cell.
+    #[inline(always)]
+    pub fn word(&self, at: Cell) -> Option<Option<u16>>
+        ensures is { result ≡ word_of self.now.live at }
         ensures table { IsTable self.now }
     {
         match self.place(at.instance) {
@@ -136,26 +143,33 @@ impl Rows {
         }
     }
 
-    /// Keeps a definition as the last one of a cell, where there is such a cell.
-    #[inline]
-    pub fn define(&mut self, at: Cell, definition: u16)
+    /// Keeps a definition as the last one of a cell; false where its instance does not live or has no such cell.
+    #[inline(always)]
+    pub fn define(&mut self, at: Cell, definition: u16) -> bool
         ensures is { self.new ≡ record { top = self.old.top; live = put at definition self.old.live } }
+        ensures there { IsTrue result ↔ IsSome (word_of self.old.live at) }
         ensures table { IsTable self.old }
     {
-        if let Some(i) = self.place(at.instance) {
-            let row = &mut self.rows[i];
-            row.words.set(at.index as usize, definition);
+        match self.place(at.instance) {
+            None => false,
+            Some(i) => {
+                let row = &mut self.rows[i];
+                row.words.set(at.index as usize, definition)
+            }
         }
     }
 
-    /// Makes an instance of so many cells, which have no definition. Its number is above that of each one made before.
-    /// `NoMemory` where memory is wanted, or 64 bits do not count all words: then nothing has changed.
+    /// Makes an instance of so many cells, which have no definition. `NoMemory` where its number is not above that of each
+    /// one made before, where memory is wanted, or where 64 bits do not count all words: then nothing has changed.
     pub fn make(&mut self, instance: u64, cells: u32) -> Result<(), NoMemory>
-        requires { self.old.top < instance }
+        ensures above { OnOk result (self.old.top < instance) }
         ensures made { OnOk result (self.new ≡ record { top = instance; live = self.old.live ++ record { number = instance; words = replicate cells None } ∷ [] }) }
         ensures kept { OnErr result (self.new ≡ self.old) }
         ensures table { IsTable self.old }
     {
+        if instance <= self.top {
+            return Err(NoMemory);
+        }
         let Some(held) = self.held.checked_add(cells as u64) else {
             return Err(NoMemory);
         };

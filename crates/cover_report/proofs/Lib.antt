@@ -1,2 +1,3 @@
-pub mod BlockLines
-pub mod ListLines
+pub mod Places
+pub mod Same
+pub mod Worked

@@ -1,14 +1,22 @@
--- The text of each item, and of the list of all items: their lines in the order of their numbers, and how many there are of each kind.
-use Rattle.std.specs.Prelude.{ℕ, suc, ◌+◌, List, [], ◌∷◌, ◌++◌, length, slice_get, unwrap_or, codes}
+-- The items of a program, each with its text, the fact that covers it and its line; and the list of all items.
+use Rattle.std.specs.Prelude.{ℕ, suc, ◌+◌, List, [], ◌∷◌, ◌++◌, length, map, slice_get, slice_index_or, unwrap_or, codes}
+use Rattle.std.specs.List.{flat_map}
 use Rattle.std.specs.Fmt.{decimal, signed_decimal}
 use Rattle.c_base.specs.declared.place.Pos.{Pos}
 use Rattle.c_base.specs.declared.labels.OutcomeLabel.{OutcomeLabel}
 use Rattle.c_base.specs.declared.labels.OutcomeLabel.TheVariants.{True, False, Case, Rest}
+use Rattle.atac_facts.specs.declared.fact.Fact.{Fact}
+use Rattle.atac_facts.specs.declared.fact.Fact.TheVariants.{Block, Outcome, Pair, PUse}
 use Rattle.atac_base.specs.declared.rows.OutcomeRow.{OutcomeRow}
 use Rattle.atac_base.specs.declared.rows.PairRow.{PairRow}
 use Rattle.atac_base.specs.declared.rows.PUseRow.{PUseRow}
 use Rattle.atac_base.specs.Items.{ItemLists}
-use Rattle.cover_report.specs.Texts.{place_text}
+use Rattle.cover_report.specs.declared.kinds.Kind.{Kind}
+use Rattle.cover_report.specs.declared.kinds.Kind.TheVariants as kind
+
+-- LINE:COL
+abbrev pub place_text : Pos → List ℕ
+place_text p = decimal p.line ++ (codes ":" ++ decimal p.col)
 
 -- block K LINE:COL
 abbrev pub block_item : ℕ → Pos → List ℕ
@@ -38,20 +46,54 @@ c_use_item names r = codes "c-use " ++ pair_text (name_of names r.name) r
 abbrev pub p_use_item : List (List ℕ) → PUseRow → List ℕ
 p_use_item names r = codes "p-use " ++ (pair_text (name_of names r.pair.name) r.pair ++ (codes " " ++ label_text r.label))
 
+-- ---- items of all kinds
+
+-- an item: its text, the fact that covers it, and the line that it stands on
+pub record Item : Type 0 where
+  pub text : List ℕ
+  pub fact : Fact
+  pub line : ℕ
+
+abbrev pub block_of : ℕ → Pos → Item
+block_of k p = record { text = block_item k p; fact = Block k; line = p.line }
+
+abbrev pub outcome_of : OutcomeRow → Item
+outcome_of r = record { text = outcome_item r; fact = Outcome r.decision r.outcome; line = r.pos.line }
+
+-- a pair stands where its use does
+abbrev pub c_use_of : List (List ℕ) → PairRow → Item
+c_use_of names r = record { text = c_use_item names r; fact = Pair r.def r.user; line = r.use_pos.line }
+
+abbrev pub p_use_of : List (List ℕ) → PUseRow → Item
+p_use_of names r = record { text = p_use_item names r; fact = PUse r.pair.def r.pair.user r.outcome; line = r.pair.use_pos.line }
+
+-- the blocks behind the first k
+abbrev pub blocks_behind : ℕ → List Pos → List Item
+blocks_behind k [] = []
+blocks_behind k (p ∷ ps) = block_of (suc k) p ∷ blocks_behind (suc k) ps
+
+-- the items of one kind, in the order of their numbers
+abbrev pub of_kind : ItemLists → Kind → List Item
+of_kind items kind.Block = blocks_behind 0 items.blocks
+of_kind items kind.Outcome = map outcome_of items.outcomes
+of_kind items kind.CUse = map (c_use_of items.names) items.c_uses
+of_kind items kind.PUse = map (p_use_of items.names) items.p_uses
+
+abbrev pub all_items : ItemLists → List Item
+all_items items = of_kind items kind.Block ++ (of_kind items kind.Outcome ++ (of_kind items kind.CUse ++ of_kind items kind.PUse))
+
+-- the item of a kind at a place, counted from 0
+abbrev pub item_at : ItemLists → Kind → ℕ → Item
+item_at items k i = slice_index_or (of_kind items k) i (record { text = []; fact = Block 0; line = 0 })
+
 -- ---- the list
 
-abbrev pub lines_of : {R : Type 0} → (R → List ℕ) → List R → List ℕ
-lines_of item [] = []
-lines_of item (r ∷ rows) = (item r ++ 10 ∷ []) ++ lines_of item rows
-
--- the lines of the blocks behind the first k
-abbrev pub blocks_behind : ℕ → List Pos → List ℕ
-blocks_behind k [] = []
-blocks_behind k (p ∷ ps) = (block_item (suc k) p ++ 10 ∷ []) ++ blocks_behind (suc k) ps
+abbrev pub list_line : Item → List ℕ
+list_line item = item.text ++ 10 ∷ []
 
 -- KIND N
 abbrev pub count_line : List ℕ → ℕ → List ℕ
-count_line kind n = kind ++ (decimal n ++ 10 ∷ [])
+count_line name n = name ++ (decimal n ++ 10 ∷ [])
 
 abbrev pub counts_text : ItemLists → List ℕ
 counts_text items =
@@ -62,9 +104,4 @@ counts_text items =
     ++ count_line (codes "all-uses ") (length items.c_uses + length items.p_uses))))
 
 abbrev pub list_text : ItemLists → List ℕ
-list_text items =
-    blocks_behind 0 items.blocks
-    ++ (lines_of outcome_item items.outcomes
-    ++ (lines_of (c_use_item items.names) items.c_uses
-    ++ (lines_of (p_use_item items.names) items.p_uses
-    ++ counts_text items)))
+list_text items = flat_map list_line (all_items items) ++ counts_text items

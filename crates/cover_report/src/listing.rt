@@ -1,58 +1,29 @@
 //! The list of a program's items.
 
 ghost use Rattle.std.specs.Prelude.{◌≡◌, ◌++◌, ◌+◌, length, string_bytes, OnOk, IfOk};
-ghost use Rattle.cover_report.specs.ItemTexts.{outcome_item, c_use_item, p_use_item, lines_of, blocks_behind, count_line, counts_text, list_text};
+ghost use Rattle.std.specs.List.{flat_map};
+ghost use Rattle.cover_report.specs.ItemTexts.{of_kind, list_line, count_line, counts_text, list_text};
 
-use crate::lines::{put_block, put_c_use, put_outcome, put_p_use};
+use crate::kinds::{Kind, count, put_item};
 use atac_base::items::Items;
 use c_base::place::NoMemory;
 use std::alloc::{AllocError, Global};
 use std::fmt::Write;
 
-fn put_blocks(text: &mut String, items: &Items) -> Result<(), AllocError>
-    ensures { OnOk result (string_bytes text.new ≡ string_bytes text.old ++ blocks_behind 0 items.now.blocks) }
+fn put_lines(text: &mut String, items: &Items, kind: Kind) -> Result<(), AllocError>
+    ensures { OnOk result (string_bytes text.new ≡ string_bytes text.old ++ flat_map list_line (of_kind items.now kind)) }
 {
-    for k in 0..items.blocks() {
-        put_block(text, k + 1, items.block(k))?;
+    for i in 0..count(items, kind) {
+        put_item(text, items, kind, i)?;
         write!(text, "\n")?;
     }
     Ok(())
 }
 
-fn put_outcomes(text: &mut String, items: &Items) -> Result<(), AllocError>
-    ensures { OnOk result (string_bytes text.new ≡ string_bytes text.old ++ lines_of outcome_item items.now.outcomes) }
+fn put_count(text: &mut String, name: &str, count: u64) -> Result<(), AllocError>
+    ensures { OnOk result (string_bytes text.new ≡ string_bytes text.old ++ count_line name.now count) }
 {
-    for i in 0..items.outcomes() {
-        put_outcome(text, items.outcome(i))?;
-        write!(text, "\n")?;
-    }
-    Ok(())
-}
-
-fn put_c_uses(text: &mut String, items: &Items) -> Result<(), AllocError>
-    ensures { OnOk result (string_bytes text.new ≡ string_bytes text.old ++ lines_of (c_use_item items.now.names) items.now.c_uses) }
-{
-    for i in 0..items.c_uses() {
-        put_c_use(text, items, items.c_use(i))?;
-        write!(text, "\n")?;
-    }
-    Ok(())
-}
-
-fn put_p_uses(text: &mut String, items: &Items) -> Result<(), AllocError>
-    ensures { OnOk result (string_bytes text.new ≡ string_bytes text.old ++ lines_of (p_use_item items.now.names) items.now.p_uses) }
-{
-    for i in 0..items.p_uses() {
-        put_p_use(text, items, items.p_use(i))?;
-        write!(text, "\n")?;
-    }
-    Ok(())
-}
-
-fn put_count(text: &mut String, kind: &str, count: u64) -> Result<(), AllocError>
-    ensures { OnOk result (string_bytes text.new ≡ string_bytes text.old ++ count_line kind.now count) }
-{
-    write!(text, "{kind}{count}\n")
+    write!(text, "{name}{count}\n")
 }
 
 fn put_counts(text: &mut String, items: &Items) -> Result<(), AllocError>
@@ -70,10 +41,10 @@ fn put_counts(text: &mut String, items: &Items) -> Result<(), AllocError>
 fn put_list(text: &mut String, items: &Items) -> Result<(), AllocError>
     ensures { OnOk result (string_bytes text.new ≡ string_bytes text.old ++ list_text items.now) }
 {
-    put_blocks(text, items)?;
-    put_outcomes(text, items)?;
-    put_c_uses(text, items)?;
-    put_p_uses(text, items)?;
+    put_lines(text, items, Kind::Block)?;
+    put_lines(text, items, Kind::Outcome)?;
+    put_lines(text, items, Kind::CUse)?;
+    put_lines(text, items, Kind::PUse)?;
     put_counts(text, items)
 }
 

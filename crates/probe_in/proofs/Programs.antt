@@ -9,13 +9,16 @@ use Rattle.c_tree.specs.Erased.{erased_unit}
 use Rattle.c_constants.specs.Probes.{digest_of}
 use Rattle.c_tree.specs.Programs.{IsProgram, HoldsProgram, itself, with_probes, digest_in}
 use Rattle.c_sites_probes.specs.Marked.{unit_mark}
+use Rattle.c_sites_probes.specs.Owned.{owner_of, owned_in}
 use Rattle.c_meaning.specs.Calls.{Source}
 use Rattle.probe_rules.specs.Instrumented.{instrumented}
 use Rattle.probe_rules.specs.Simulation.{Simulates}
 use Rattle.probe_rules.proofs.ErasedPlain.{plain_erased}
 use Rattle.probe_rules.proofs.ErasedUnits.{instrumented_erased}
 use Rattle.probe_laws.specs.Laws.{IsTaken}
+use Rattle.probe_laws.specs.Owners.{owner_in_program}
 use Rattle.probe_laws.proofs.Laws.{taken_is_plain, program_simulates}
+use Rattle.probe_laws.proofs.Owners.{program_owns}
 
 abbrev pub source : UnitShape → TablesShape → Source
 source u t = record { unit = u; tables = t }
@@ -46,3 +49,11 @@ made digest spelled P u t e f g = ap (λ v. source v t) e ∙ ap (λ s. source (
 -- its line has the digest
 pub lined : (digest : Text) (P : Source) (u : UnitShape) (bytes : List ℕ) → u ≡ (instrumented digest P).unit → digest_of digest ≡ Some bytes → digest_in u.line ≡ Some bytes
 lined digest P u bytes e f = ap (λ (v : UnitShape). digest_in v.line) e ∙ f
+
+-- without its probes it is the program
+pub erased_again : (digest : Text) (P : Source) (u : UnitShape) → IsTaken P → u ≡ (instrumented digest P).unit → erased_unit u ≡ P.unit
+erased_again digest P u taken e = ap erased_unit e ∙ instrumented_erased digest P (taken_is_plain P taken)
+
+-- its use probes belong to the decisions of the uses
+pub owned_again : (digest : Text) (P : Source) (u : UnitShape) → IsTaken P → u ≡ (instrumented digest P).unit → (n : ℕ) → owner_of n (owned_in u) ≡ owner_in_program P n
+owned_again digest P u taken e n = ap (λ v. owner_of n (owned_in v)) e ∙ program_owns P taken digest n

@@ -11,4 +11,5 @@ mod FitStatements
 mod BareMarks
 pub mod FitUnits
 pub mod Laws
+pub mod Owners
 mod Worked

@@ -1,15 +1,18 @@
 //! What is made before `main` is called (C89, 3.1.2.4 and 3.5.7).
 
-ghost use Rattle.std.specs.Prelude.{◌≡◌, ◌<◌, ◌≤◌, suc, List, length, map, slice_get, IfOk, OnOk};
+ghost use Rattle.std.specs.Prelude.{◌≡◌, ◌<◌, ◌≤◌, suc, List, ◌++◌, length, map, slice_get, None, Some, IfOk, OnOk};
 ghost use Rattle.c_events.specs.declared.events.Event.{Event};
 ghost use Rattle.c_syntax.specs.View.{maybe_init, declarator_shape, declarator_list, decl_shape, external_shape};
 ghost use Rattle.c_meaning.specs.Results.{then_do, present};
 ghost use Rattle.c_meaning.specs.Firsts.{quiet};
 ghost use Rattle.c_syntax.specs.Shape.{TypeOf};
+ghost use Rattle.c_syntax.specs.declared.text.Text.{Text};
 ghost use Rattle.c_meaning.specs.Layout.{cells, variable_kind};
 ghost use Rattle.c_meaning.specs.Declarations.{file_variable, file_name, file_names, file_decl};
 ghost use Rattle.c_meaning.specs.Runs.{literals_made, external_made, externals_made, all_made, silent};
 ghost use Rattle.c_meaning.specs.Sources.{source_of};
+ghost use Rattle.c_base.specs.Kept.{kept};
+ghost use Rattle.c_world.specs.Shown.{noted};
 ghost use Rattle.c_world.specs.Steps.{literal_made, placed_at, placed_file};
 ghost use Rattle.c_world.specs.World.{state_of, tables_of, answered, Same};
 
@@ -57,6 +60,7 @@ impl<'p> World<'p> {
     fn make_literal(&mut self, before: u32) -> Result<Option<Stop>, NoMemory>
         requires { before < length (tables_of self.old).literals }
         ensures done { IfOk result (λ r. (h : List Event) → literal_made (slice_get (tables_of self.old).literals before) (state_of self.old h) ≡ answered r (state_of self.new h)) }
+        ensures noted { IfOk result (λ r. r ≡ None → (x : Text) → slice_get (tables_of self.old).literals before ≡ Some x → self.new.fresh.items ≡ self.old.fresh.items ++ noted (Some self.new.store.count) (kept (suc (length x)))) }
         ensures same { Same self.old self.new }
         ensures names { self.new.names ≡ self.old.names }
     {
@@ -69,6 +73,7 @@ impl<'p> World<'p> {
             Err(MakeErr::Room) => Ok(Some(Stop::Room)),
             Ok(instance) => {
                 self.made = instance;
+                self.note(instance, literal.bytes.len().saturating_add(1))?;
                 Ok(None)
             }
         }
@@ -177,6 +182,7 @@ impl<'p> World<'p> {
     fn place_filed(&mut self, variable: u32) -> Result<Option<u64>, NoMemory>
         requires { (1 ≤ variable) × (variable ≤ length (tables_of self.old).variables) }
         ensures done { IfOk result (λ r. (h : List Event) (k : TypeOf) → variable_kind (tables_of self.old) variable ≡ Some k → placed_file variable (cells (tables_of self.old) k) (state_of self.old h) ≡ placed_at r (state_of self.new h)) }
+        ensures noted { IfOk result (λ r. (k : TypeOf) → variable_kind (tables_of self.old) variable ≡ Some k → self.new.fresh.items ≡ self.old.fresh.items ++ noted r (kept (cells (tables_of self.old) k))) }
         ensures same { Same self.old self.new }
         ensures calls { OnOk result (self.new.names.calls ≡ self.old.names.calls) }
     {
@@ -190,6 +196,7 @@ impl<'p> World<'p> {
             Ok(instance) => {
                 self.made = instance;
                 self.names.bind_file(variable, instance)?;
+                self.note(instance, count)?;
                 Ok(Some(instance))
             }
         }

@@ -1,6 +1,6 @@
 //! Local variables, made (C89, 3.5.7).
 
-ghost use Rattle.std.specs.Prelude.{◌≡◌, ℕ, suc, List, Option, IfOk, OnOk};
+ghost use Rattle.std.specs.Prelude.{◌≡◌, ℕ, suc, List, ◌++◌, Option, IfOk, OnOk};
 ghost use Rattle.c_events.specs.declared.events.Event.{Event};
 ghost use Rattle.c_syntax.specs.declared.tree.Named.{Named};
 ghost use Rattle.c_syntax.specs.declared.tree.Star.{Star};
@@ -9,6 +9,7 @@ ghost use Rattle.c_meaning.specs.Firsts.{quiet};
 ghost use Rattle.c_meaning.specs.Knot.{Knot};
 ghost use Rattle.c_meaning.specs.Declarations.{declared_name};
 ghost use Rattle.c_world.specs.Names.{IsActive, scope_counts};
+ghost use Rattle.c_world.specs.Shown.{noted};
 ghost use Rattle.c_world.specs.Steps.{placed, placed_at, placed_or, declared, made_variable};
 ghost use Rattle.c_world.specs.World.{state_of, tables_of, answered, Same};
 
@@ -78,6 +79,7 @@ impl<'p> World<'p> {
     fn place(&mut self, variable: u32, cells: u32) -> Result<Option<u64>, NoMemory>
         requires { IsActive self.old.names.calls }
         ensures done { IfOk result (λ r. (h : List Event) → placed variable cells (state_of self.old h) ≡ placed_at r (state_of self.new h)) }
+        ensures noted { IfOk result (λ r. self.new.fresh.items ≡ self.old.fresh.items ++ noted r cells) }
         ensures same { Same self.old self.new }
         ensures active { OnOk result (IsActive self.new.names.calls) }
         ensures counts { OnOk result (scope_counts self.new.names.calls ≡ scope_counts self.old.names.calls) }
@@ -91,6 +93,7 @@ impl<'p> World<'p> {
             Ok(instance) => {
                 self.made = instance;
                 self.names.bind(variable, instance)?;
+                self.note(instance, cells)?;
                 Ok(Some(instance))
             }
         }

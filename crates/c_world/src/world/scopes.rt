@@ -46,6 +46,9 @@ impl<'p> World<'p> {
             made: 0,
             sizes: Vec::new(alloc),
             pending: Vec::new(alloc),
+            fresh: Vec::new(alloc),
+            shown: Vec::new(alloc),
+            closed: false,
         })
     }
 
@@ -101,6 +104,7 @@ impl<'p> World<'p> {
     {
         end_bindings(&mut self.names, &mut self.store);
         self.names.close_scope();
+        self.closed = true;
     }
 
     /// Ends the active call, of which only the scope of its parameters is left.
@@ -113,6 +117,7 @@ impl<'p> World<'p> {
     {
         end_bindings(&mut self.names, &mut self.store);
         self.names.close_call();
+        self.closed = true;
     }
 }
 

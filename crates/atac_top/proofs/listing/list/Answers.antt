@@ -1,18 +1,12 @@
--- A text that is not accepted; a program's list; and one whose pairs are too many.
+-- A text that has no list, and one that has.
 use Rattle.std.proofs.Common.{refl}
-use Rattle.atac_top.specs.Programs.{not_accepted}
-use Rattle.atac_top.proofs.Reading.{check_refused, check_accepts, listing_of, unlisted_of}
+use Rattle.atac_top.proofs.Reading.{itemise_refused, itemise_given}
 use Rattle.atac_top.proofs.listing.list.Goals as goal
 
 pub returns-in-Refuses : goal.returns-in-Refuses
-returns-in-Refuses c = not_accepted (check_refused _ c.in-Refuses.said _ _ c.in-Refuses.is refl c.in_ok-said.ensures)
+returns-in-Refuses c = itemise_refused _ c.in-Refuses.said _ _ c.in-Refuses.is refl c.in_ok-said.ensures
 
-pub returns-in-Ok : goal.returns-in-Ok
-returns-in-Ok c =
-    let h = check_accepts _ c.in-Accepts.program c.in-Accepts.sites _ _ c.in-Accepts.is refl c.in_ok-said.ensures in
-    listing_of _ _ c.in-Accepts.program c.in-Accepts.sites h c.in-Ok.items c.in-Ok.ensures.items c.in_ok-list_text-in-Ok.ensures
-
-pub returns-in-Err-TooManyPairs : goal.returns-in-Err-TooManyPairs
-returns-in-Err-TooManyPairs c =
-    let h = check_accepts _ c.in-Accepts.program c.in-Accepts.sites _ _ c.in-Accepts.is refl c.in_ok-said.ensures in
-    unlisted_of _ _ c.in-Accepts.program c.in-Accepts.sites h (c.in-Err-TooManyPairs.ensures.more c.in-Err-TooManyPairs.field-0-is) c.in_ok-said-in-Err-TooManyPairs.ensures
+pub returns : goal.returns
+returns c =
+    let h = itemise_given _ c.in-Has.field-0 c.in-Has.field-1 c.in-Has.items _ _ c.in-Has.is refl c.in_ok-said.ensures in
+    record { accepted = h.sites.accepted; items = c.in-Has.items; has = h.has; text_is = c.in_ok-list_text-in-Has.ensures }

@@ -10,5 +10,5 @@ decreases-loop-step g l = 12 * l.world.turns + machine_size l.machine
 
 abbrev pub invariant-loop-step : goal.invariant-loop-step
 invariant-loop-step g l =
-    ((h m : List Event) → g.P.Probes.stands_for l.fn.probes (h ++ m) → (m' : List Event) × g.P.Probes.stands_for l.probes (h ++ m') × (left_in (tables_shape l.plan.program.now.tables) (knot_of l.plan.program.now) l.machine (state_of l.world m') ≡ left_in (tables_shape l.plan.program.now.tables) (knot_of l.plan.program.now) l.fn.machine (state_of l.fn.world m)))
-    × Tied l.machine l.world × Same l.fn.world l.world
+    ((m : List Event) → (m' : List Event) × ((h : List Event) → g.P.Probes.stands_for l.fn.probes (h ++ m) → g.P.Probes.stands_for l.probes (h ++ m')) × (left_in (tables_shape l.plan.program.now.tables) (knot_of l.plan.program.now) l.machine (state_of l.world m') ≡ left_in (tables_shape l.plan.program.now.tables) (knot_of l.plan.program.now) l.fn.machine (state_of l.fn.world m)))
+    × Tied l.machine l.world × Same l.fn.world l.world × (g.P.Probes.owners l.probes ≡ g.P.Probes.owners l.fn.probes)

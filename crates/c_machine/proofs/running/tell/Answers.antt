@@ -4,9 +4,12 @@ use Rattle.c_eval.proofs.Advanced.{front_taken, none_pending}
 use Rattle.c_machine.proofs.running.tell.Goals as goal
 
 pub returns-in_err-tell-clause-front : goal.returns-in_err-tell-clause-front
-returns-in_err-tell-clause-front g c = let p = err_from_is_err_and c.from_residual.result c.from_residual.ensures.1 in rw p.1 (λ h l at.
-    let w = c.in_err-tell.ensures.front h l at in
-    (l ++ take w.0 c.args.world.now.pending.items, w.1, front_taken l c.args.world.now.pending.items w.0))
+returns-in_err-tell-clause-front g c = let p = err_from_is_err_and c.from_residual.result c.from_residual.ensures.1 in rw p.1 (λ l.
+    let w = c.in_err-tell.ensures.up_to in
+    (l ++ take w.0 c.args.world.now.pending.items, (λ h. w.1 h l), front_taken l c.args.world.now.pending.items w.0))
+
+pub returns-clause-told : goal.returns-clause-told
+returns-clause-told g c = λ l. (l ++ c.args.world.now.pending.items, (λ h. c.in_ok-tell.ensures.told h l), c.in_ok-tell.ensures.rest l)
 
 pub returns-clause-empty : goal.returns-clause-empty
 returns-clause-empty g c = none_pending c.args.world.now.pending.items c.tell.new.self.pending.items _ _ refl refl (c.in_ok-tell.ensures.rest [])

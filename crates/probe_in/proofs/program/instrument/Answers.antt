@@ -4,7 +4,7 @@ use Rattle.c_tables.specs.Tables.{tables_shape}
 use Rattle.c_meaning.specs.Sources.{source_of}
 use Rattle.hex.specs.Hex.{encode_lower}
 use Rattle.probe_rules.specs.Instrumented.{instrumented_unit}
-use Rattle.probe_in.proofs.Programs.{probed_program, made, lined, probed_simulates}
+use Rattle.probe_in.proofs.Programs.{probed_program, made, lined, probed_simulates, erased_again, owned_again}
 use Rattle.probe_in.proofs.program.instrument.Goals as goal
 
 pub with_probes-requires : goal.with_probes-requires
@@ -26,3 +26,15 @@ returns-clause-simulates c =
     let tables = ap tables_shape c.with_probes.ensures.tables ∙ c.in_ok-tables.ensures ∙ ap tables_shape c.tables.ensures.tables in
     let same = made c.in_ok-digits.digits (encode_lower c.args.digest.now) (source_of c.args.program.now) (unit_shape c.with_probes.result.unit) (tables_shape c.with_probes.result.tables) unit tables c.in_ok-digits.ensures.spelled in
     probed_simulates (encode_lower c.args.digest.now) (source_of c.args.program.now) (source_of c.with_probes.result) c.requires.clean c.args.program.now.typed same
+
+pub returns-clause-erased : goal.returns-clause-erased
+returns-clause-erased c =
+    let t = tables_shape c.args.program.now.tables in
+    let unit = ap unit_shape c.with_probes.ensures.unit ∙ c.in_ok-unit.ensures t ∙ ap (λ u. instrumented_unit c.in_ok-digits.digits t (unit_shape u)) c.unit.ensures.unit in
+    erased_again c.in_ok-digits.digits (source_of c.args.program.now) (unit_shape c.with_probes.result.unit) c.requires.clean unit
+
+pub returns-clause-owns : goal.returns-clause-owns
+returns-clause-owns c n =
+    let t = tables_shape c.args.program.now.tables in
+    let unit = ap unit_shape c.with_probes.ensures.unit ∙ c.in_ok-unit.ensures t ∙ ap (λ u. instrumented_unit c.in_ok-digits.digits t (unit_shape u)) c.unit.ensures.unit in
+    owned_again c.in_ok-digits.digits (source_of c.args.program.now) (unit_shape c.with_probes.result.unit) c.requires.clean unit n

@@ -10,5 +10,5 @@ pub invariant_of-self : goal.invariant_of-self
 invariant_of-self c =
     let y : Row = record { number = c.args.instance; words = c.in-Ok.words } in
     let n : length (words_in c.in-Ok.words) ≡ c.args.cells = ap (λ l. length l) c.in-Ok.ensures ∙ simp length-replicate in
-    let above : c.self.inside.top < c.args.instance = omega (arith, c.requires, ap (λ (t : Table). t.top) c.self.view_is) in
+    let above : c.self.inside.top < c.args.instance = omega (arith, c.if-instance-self.false, ap (λ (t : Table). t.top) c.self.view_is) in
     rw c.in-Ok-pushed.ensures.items (ascending_push 0 c.self.inside.top c.args.instance c.self.inside.rows.items y c.self.invariant.0 above refl, omega (arith, n, cells_push c.self.inside.rows.items y, c.self.invariant.1, c.in-Some.ensures))

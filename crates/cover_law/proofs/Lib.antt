@@ -1,0 +1,3 @@
+mod Tests
+mod Lasts
+pub mod Covering

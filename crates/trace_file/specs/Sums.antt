@@ -1,0 +1,20 @@
+-- What is asked of the facts of a tally and of a set, and what the types of a row say of its numbers.
+use Rattle.std.specs.Prelude.{◌≡◌, ◌<◌, ◌^◌, true, IsTrue, List}
+use Rattle.atac_facts.specs.declared.fact.Fact.{Fact}
+use Rattle.atac_facts.specs.declared.tally.Counted.{Counted}
+use Rattle.atac_facts.specs.Facts.{fits}
+use Rattle.atac_facts.specs.Sets.{FactSet, holds}
+use Rattle.atac_facts.specs.Tallies.{is_met}
+use Rattle.trace_file.specs.Sound.{SoundFact}
+
+-- Every fact that was met has sound numbers.
+abbrev pub AreSound : List Counted → Type 0
+AreSound rows = (fact : Fact) → IsTrue (is_met rows fact) → SoundFact fact
+
+-- So has every fact of the set.
+abbrev pub HoldsSound : FactSet → Type 0
+HoldsSound set = (fact : Fact) → IsTrue (holds set fact) → SoundFact fact
+
+pub record RowFits (row : Counted) : Type 0 where
+  pub fact : fits row.fact ≡ true
+  pub count : row.count < 2 ^ 32
