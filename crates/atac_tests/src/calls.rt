@@ -2,7 +2,7 @@
 
 use atac_base::memory::{MemoryShelf, MemorySink};
 use atac_base::outside::Shelf;
-use atac_top::status::Status;
+use atac_steps::Status;
 use atac_top::top::atac;
 use std::alloc::{AllocError, Global};
 

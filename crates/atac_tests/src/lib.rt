@@ -10,6 +10,8 @@ mod collector;
 #[cfg(test)]
 mod events;
 #[cfg(test)]
+mod flows;
+#[cfg(test)]
 mod lexer;
 #[cfg(test)]
 mod pieces;

@@ -1,7 +1,7 @@
 //! Calls whose fetches and puts fail.
 
 use crate::calls::{Fails, NONE, call, check, cover};
-use atac_top::status::Status;
+use atac_steps::Status;
 use std::test::Fail;
 
 const LOOP: &[u8] = b"int main(void){int x=0;while(x<2)x=x+1;return x;}";

@@ -1,12 +1,17 @@
 -- The answers of the commands, as far as their steps have come.
-use Rattle.std.proofs.Common.{◌≡◌, ap, ◌∙◌, append-nil, List, [], ◌∷◌, ◌++◌, ℕ, Option, None, Some}
+use Rattle.std.proofs.Common.{◌≡◌, refl, ap, List, [], ◌∷◌, ℕ, Option, None, Some}
 use Rattle.c_meaning.specs.Calls.{Source}
 use Rattle.atac_base.specs.Items.{ItemLists}
-use Rattle.atac_top.specs.Words.{Command, Check, ListItems, Cover, Run}
-use Rattle.atac_top.specs.Ends.{End, IsDone, NotAccepted}
-use Rattle.atac_top.specs.Programs.{Counts, Reading, Refuses, Counted, Listed, Runs, Covers, IsUnderstood, counts_text, section}
-use Rattle.atac_top.specs.Answers.{Answer, asked, names, text, refused, covering, gets, Got, Gets, Stops, input_most}
-use Rattle.atac_top.specs.Runs.{IsOfGot, Understands}
+use Rattle.atac_words.specs.Words.{Command, Check, ListItems, Instrument, Cover, Run, RunInto, Merge, Tell}
+use Rattle.atac_steps.specs.Ends.{End, IsDone, NotAccepted}
+use Rattle.atac_top.specs.Programs.{Counts, Reading, Refuses, Counted, Listed, Runs, Covers, Probes, Viewed, Merges, Records, IsRecorded, IsUnderstood, counts_text, section, view_text, runs_text}
+use Rattle.atac_top.specs.Answers.{Answer, asked, text, refused, covering, joining, keeping, old_given, input_most}
+use Rattle.atac_steps.specs.Got.{gets, Got, Gets, Stops}
+use Rattle.atac_top.specs.Runs.{IsOfGot, AreRead, IsRunInto, Understands}
+use Rattle.sha2.specs.Sha256.{sha256}
+use Rattle.trace_file.specs.declared.trace.Trace.{Trace}
+use Rattle.atac_words.specs.declared.words.View.{View}
+use Rattle.atac_traces.specs.Files.{Read, trace_most}
 
 -- what stops at its program is not understood
 stopped_got : (command : Command) (g : Got) (e : End) → g ≡ Stops e → IsOfGot command g (Refuses [])
@@ -18,11 +23,11 @@ stopped_got command (Gets source) e h = absurd (let k : Gets source ≡ Stops e 
 module _ (n : ℕ) (p : List ℕ) (is : List (List ℕ)) (fp : Option (List ℕ)) (fs : List (Option (List ℕ))) where
   pub cover_stopped_first : (e : End) → gets p 1048576 fp ≡ Stops e
       → Understands (Some (Cover n p is)) (fp ∷ fs) (Refuses []) × (asked (Some (Cover n p is)) (Refuses []) (fp ∷ fs) ≡ refused [] e)
-  cover_stopped_first e h = (stopped_got (Cover n p is) (gets p 1048576 fp) e h, rw h)
+  cover_stopped_first e h = ((stopped_got (Cover n p is) (gets p 1048576 fp) e h, tt), rw h)
 
   module _ (s : List ℕ) (h : gets p 1048576 fp ≡ Gets s) where
     pub cover_understands : (u : Reading) → IsUnderstood (Cover n p is) s u → Understands (Some (Cover n p is)) (fp ∷ fs) u
-    cover_understands u is = rw h is
+    cover_understands u is = (rw h is, tt)
 
     pub cover_refused : (said : List ℕ) → asked (Some (Cover n p is)) (Refuses said) (fp ∷ fs) ≡ refused [] (NotAccepted p said)
     cover_refused said = rw h
@@ -35,11 +40,11 @@ module _ (n : ℕ) (p : List ℕ) (is : List (List ℕ)) (fp : Option (List ℕ)
 module _ (n : ℕ) (p i : List ℕ) (fp fi : Option (List ℕ)) where
   pub run_stopped_first : (e : End) → gets p 67108864 fp ≡ Stops e
       → Understands (Some (Run n p i)) (fp ∷ fi ∷ []) (Refuses []) × (asked (Some (Run n p i)) (Refuses []) (fp ∷ fi ∷ []) ≡ refused [] e)
-  run_stopped_first e h = (stopped_got (Run n p i) (gets p 67108864 fp) e h, rw h)
+  run_stopped_first e h = ((stopped_got (Run n p i) (gets p 67108864 fp) e h, tt), rw h)
 
   module _ (s : List ℕ) (h : gets p 67108864 fp ≡ Gets s) where
     pub run_understands : (u : Reading) → IsUnderstood (Run n p i) s u → Understands (Some (Run n p i)) (fp ∷ fi ∷ []) u
-    run_understands u is = rw h is
+    run_understands u is = (rw h is, tt)
 
     pub run_refused : (said : List ℕ) → asked (Some (Run n p i)) (Refuses said) (fp ∷ fi ∷ []) ≡ refused [] (NotAccepted p said)
     run_refused said = rw h
@@ -59,11 +64,11 @@ module _ (n : ℕ) (p i : List ℕ) (fp fi : Option (List ℕ)) where
 
 pub check_stopped : (p : List ℕ) (fp : Option (List ℕ)) (e : End) → gets p 1048576 fp ≡ Stops e
     → Understands (Some (Check p)) (fp ∷ []) (Refuses []) × (asked (Some (Check p)) (Refuses []) (fp ∷ []) ≡ refused [] e)
-check_stopped p fp e h = (stopped_got (Check p) (gets p 1048576 fp) e h, rw h)
+check_stopped p fp e h = ((stopped_got (Check p) (gets p 1048576 fp) e h, tt), rw h)
 
 module _ (p : List ℕ) (fp : Option (List ℕ)) (s : List ℕ) (h : gets p 1048576 fp ≡ Gets s) where
   pub checked : (u : Reading) → IsUnderstood (Check p) s u → Understands (Some (Check p)) (fp ∷ []) u
-  checked u is = rw h is
+  checked u is = (rw h is, tt)
 
   pub check_refused : (said : List ℕ) → asked (Some (Check p)) (Refuses said) (fp ∷ []) ≡ refused [] (NotAccepted p said)
   check_refused said = rw h
@@ -75,14 +80,81 @@ module _ (p : List ℕ) (fp : Option (List ℕ)) (s : List ℕ) (h : gets p 1048
 
 pub list_stopped : (p : List ℕ) (fp : Option (List ℕ)) (e : End) → gets p 1048576 fp ≡ Stops e
     → Understands (Some (ListItems p)) (fp ∷ []) (Refuses []) × (asked (Some (ListItems p)) (Refuses []) (fp ∷ []) ≡ refused [] e)
-list_stopped p fp e h = (stopped_got (ListItems p) (gets p 1048576 fp) e h, rw h)
+list_stopped p fp e h = ((stopped_got (ListItems p) (gets p 1048576 fp) e h, tt), rw h)
 
 module _ (p : List ℕ) (fp : Option (List ℕ)) (s : List ℕ) (h : gets p 1048576 fp ≡ Gets s) where
   pub listed : (u : Reading) → IsUnderstood (ListItems p) s u → Understands (Some (ListItems p)) (fp ∷ []) u
-  listed u is = rw h is
+  listed u is = (rw h is, tt)
 
   pub list_refused : (said : List ℕ) → asked (Some (ListItems p)) (Refuses said) (fp ∷ []) ≡ refused [] (NotAccepted p said)
   list_refused said = rw h
 
   pub list_done : (items : List ℕ) → asked (Some (ListItems p)) (Listed items) (fp ∷ []) ≡ record { end = IsDone; sections = []; rest = items; kept = None }
   list_done items = rw h
+
+-- ---- the answer of `instrument`
+
+pub instrument_stopped : (p o : List ℕ) (fp : Option (List ℕ)) (e : End) → gets p 1048576 fp ≡ Stops e
+    → Understands (Some (Instrument p o)) (fp ∷ []) (Refuses []) × (asked (Some (Instrument p o)) (Refuses []) (fp ∷ []) ≡ refused [] e)
+instrument_stopped p o fp e h = ((stopped_got (Instrument p o) (gets p 1048576 fp) e h, tt), rw h)
+
+module _ (p o : List ℕ) (fp : Option (List ℕ)) (s : List ℕ) (h : gets p 1048576 fp ≡ Gets s) where
+  pub instrumented : (u : Reading) → IsUnderstood (Instrument p o) s u → Understands (Some (Instrument p o)) (fp ∷ []) u
+  instrumented u is = (rw h is, tt)
+
+  pub instrument_refused : (said : List ℕ) → asked (Some (Instrument p o)) (Refuses said) (fp ∷ []) ≡ refused [] (NotAccepted p said)
+  instrument_refused said = rw h
+
+  pub instrument_done : (text : List ℕ) → asked (Some (Instrument p o)) (Probes text) (fp ∷ []) ≡ record { end = IsDone; sections = []; rest = []; kept = Some (o, text) }
+  instrument_done text = rw h
+
+-- ---- the answer of `report`, `show` and `hits`
+
+module _ (v : View) (p : List ℕ) (ts : List (List ℕ)) (fp : Option (List ℕ)) (fs : List (Option (List ℕ))) where
+  pub tell_stopped : (e : End) → gets p 1048576 fp ≡ Stops e
+      → Understands (Some (Tell v p ts)) (fp ∷ fs) (Refuses []) × (asked (Some (Tell v p ts)) (Refuses []) (fp ∷ fs) ≡ refused [] e)
+  tell_stopped e h = ((stopped_got (Tell v p ts) (gets p 1048576 fp) e h, tt), rw h)
+
+  module _ (s : List ℕ) (h : gets p 1048576 fp ≡ Gets s) where
+    pub tell_not : (said : List ℕ) → IsUnderstood (Tell v p ts) s (Refuses said) → Understands (Some (Tell v p ts)) (fp ∷ fs) (Refuses said)
+    tell_not said is = (rw h is, tt)
+
+    pub tell_refused : (said : List ℕ) → asked (Some (Tell v p ts)) (Refuses said) (fp ∷ fs) ≡ refused [] (NotAccepted p said)
+    tell_refused said = rw h
+
+    pub tell_understands : (P : Source) (items : ItemLists) (reads : List Read) → IsUnderstood (Tell v p ts) s (Viewed P items reads) → AreRead (sha256 s) ts fs reads → Understands (Some (Tell v p ts)) (fp ∷ fs) (Viewed P items reads)
+    tell_understands P items reads is read = (rw h is, rw h read)
+
+    pub tell_goes : (P : Source) (items : ItemLists) (reads : List Read)
+        → asked (Some (Tell v p ts)) (Viewed P items reads) (fp ∷ fs) ≡ joining ts fs reads [] (λ all. record { end = IsDone; sections = []; rest = view_text v s items all; kept = None })
+    tell_goes P items reads = rw h
+
+-- ---- the answer of `merge`
+
+pub merge_goes : (o : List ℕ) (ts : List (List ℕ)) (fs : List (Option (List ℕ))) (reads : List Read) (sum : Option Trace) → asked (Some (Merge o ts)) (Merges reads sum) fs ≡ joining ts fs reads [] (λ all. keeping o sum runs_text)
+merge_goes o ts fs reads sum = refl
+
+-- ---- the answer of `run` into a trace
+
+module _ (n : ℕ) (p i t : List ℕ) (fp fi ft : Option (List ℕ)) where
+  pub into_stopped : (e : End) → gets p 67108864 fp ≡ Stops e
+      → Understands (Some (RunInto n p i t)) (fp ∷ fi ∷ ft ∷ []) (Refuses []) × (asked (Some (RunInto n p i t)) (Refuses []) (fp ∷ fi ∷ ft ∷ []) ≡ refused [] e)
+  into_stopped e h = ((stopped_got (RunInto n p i t) (gets p 67108864 fp) e h, tt), rw h)
+
+  module _ (s : List ℕ) (h : gets p 67108864 fp ≡ Gets s) where
+    pub into_not : (said : List ℕ) → IsUnderstood (RunInto n p i t) s (Refuses said) → Understands (Some (RunInto n p i t)) (fp ∷ fi ∷ ft ∷ []) (Refuses said)
+    into_not said is = (rw h is, tt)
+
+    pub into_refused : (said : List ℕ) → asked (Some (RunInto n p i t)) (Refuses said) (fp ∷ fi ∷ ft ∷ []) ≡ refused [] (NotAccepted p said)
+    into_refused said = rw h
+
+    module _ (P : Source) (old : Option Read) (new : Option Trace) where
+      pub into_understands : IsRecorded s P → IsRunInto n P (gets i input_most fi) (gets t trace_most ft) old new → Understands (Some (RunInto n p i t)) (fp ∷ fi ∷ ft ∷ []) (Records P old new)
+      into_understands is more = (rw h is, more)
+
+      pub into_stops : (e : End) → gets i input_most fi ≡ Stops e → asked (Some (RunInto n p i t)) (Records P old new) (fp ∷ fi ∷ ft ∷ []) ≡ refused [] e
+      into_stops e l = rw (h, l)
+
+      pub into_goes : (b : List ℕ) → gets i input_most fi ≡ Gets b
+          → asked (Some (RunInto n p i t)) (Records P old new) (fp ∷ fi ∷ ft ∷ []) ≡ old_given t (gets t trace_most ft) old (keeping t new (λ x. section i P b n))
+      into_goes b l = rw (h, l)

@@ -1,27 +1,25 @@
 -- What follows from a whole run.
-use Rattle.std.proofs.Common.{◌≡◌, ◌⊎◌, inl, inr, refl, ap, sym, ◌∙◌, subst, List, [], ◌∷◌, ◌++◌, ℕ, Option, None, Some, arith, append_assoc, append-nil}
+use Rattle.std.proofs.Common.{◌≡◌, ◌⊎◌, inl, inr, refl, ap, sym, ◌∙◌, subst, List, [], ◌∷◌, ◌++◌, ℕ, Option, None, Some, append_assoc, append-nil}
 use Rattle.std.specs.Io.KnownBytes.{append_known}
-use Rattle.atac_base.specs.Outside.{ShelfState, SinkState, Said, Agrees}
-use Rattle.c_syntax.specs.Shape as full
-use Rattle.c_tables.specs.Tables.{TablesShape}
+use Rattle.atac_base.specs.Outside.{ShelfState, SinkState, Said}
 use Rattle.c_walk.specs.Units.{items_of}
 use Rattle.c_sites.specs.declared.numbered.Sites.{Sites}
-use Rattle.c_sites.specs.Refused.{refusal, AreNumbered}
-use Rattle.pair_list.specs.Items.{AreItems, AreTooMany}
+use Rattle.c_sites.specs.Refused.{AreNumbered}
+use Rattle.pair_list.specs.Items.{AreTooMany}
 use Rattle.atac_base.specs.Items.{ItemLists}
-use Rattle.c_lex.specs.declared.lexer.TextKind.TheVariants.{Plain, Probed}
 use Rattle.c_meaning.specs.Calls.{Source}
-use Rattle.atac_top.specs.Words.{Command, Check, ListItems, Cover, Run}
-use Rattle.atac_top.specs.Ends.{End, IsDone, BadWords, NotAccepted, NotHeld, TooLong, ReadFailed, WriteFailed, OutOfMemory, status_of}
-use Rattle.atac_top.specs.Programs.{IsAccepted, HasItems, IsProbed, IsListing, program_in, Rejection, by_front, by_sites, Unlisted, not_accepted, too_many, Unread, Counts, counts_of, counts_text, Reading, Refuses, Counted, Listed, Runs, Covers, IsUnderstood, section, report}
-use Rattle.atac_top.specs.Answers.{Answer, asked, names, joined, text, refused, given, covering, gets, Gets, input_most}
-use Rattle.atac_top.specs.Runs.{AllAgree, IsOfGot, Understands, Breaks, Answers, Goes}
+use Rattle.atac_words.specs.Words.{Command, Check, ListItems, Instrument, Cover, Run, RunInto, Merge, Tell}
+use Rattle.atac_steps.specs.Ends.{End, IsDone, BadWords, NotAccepted, NotHeld, TooLong, NoTrace, ReadFailed, WriteFailed, KeepFailed, OutOfMemory, status_of}
+use Rattle.atac_top.specs.Programs.{IsAccepted, HasItems, IsProbed, IsListing, program_in, Counts, counts_of, counts_text, Reading, Refuses, Counted, Listed, Runs, Covers, Probes, Viewed, Merges, Records, IsUnderstood, section, report}
+use Rattle.atac_top.specs.Answers.{Answer, asked, names, joined, text, refused, given, covering, input_most}
+use Rattle.atac_steps.specs.Got.{gets, Gets, AllAgree}
+use Rattle.atac_top.specs.Runs.{IsOfGot, Understands, Breaks, Answers, Keeps, Goes}
 use Rattle.atac_top.specs.Runs as whole
 use Rattle.atac_top.specs.Claims.{IsHeld, AreHeld, Passes, IsRunnable, Supposes, sections, Shows, NoFault}
-use Rattle.atac_top.specs.declared.status.Status.{Status}
-use Rattle.atac_top.specs.declared.status.Status.TheVariants.{Done, NoMemory}
-use Rattle.c_front.specs.Front as front
-use Rattle.c_front.proofs.One.{is_one}
+use Rattle.atac_steps.specs.declared.status.Status.{Status}
+use Rattle.atac_steps.specs.declared.status.Status.TheVariants.{Done, Usage, NoMemory}
+use Rattle.atac_top.proofs.Same.{IsSure, got, same_counts, same_source, not_rejected, not_unlisted, not_unread, one_probed, has_moved}
+use Rattle.atac_top.proofs.Traced.{written_done, written_answer, told_done, told_text, merged_done, merged_answer, into_done, into_answer, kept_so}
 use Rattle.atac_top.proofs.Asked.{cover_goes, cover_refused, run_done, run_text, check_done, list_done, list_refused}
 
 module _ (c : Option Command) (shelf shelf' : ShelfState) (out out' : SinkState) (found : List (Option (List ℕ))) (put : List ℕ) (fine : NoFault shelf shelf' out out') where
@@ -35,51 +33,45 @@ module _ (c : Option Command) (shelf shelf' : ShelfState) (out out' : SinkState)
   breaks_done (NotAccepted file said) h = absurd h
   breaks_done (NotHeld file) h = absurd h
   breaks_done (TooLong file) h = absurd h
+  breaks_done (NoTrace file why) h = absurd h
+  breaks_done (KeepFailed file) h = absurd h
+
+  done_not : (e f : End) → e ≡ f → IsSure f → (IsSure e)
+  done_not e f same (inl d) = inl (same ∙ d)
+  done_not e f same (inr d) = inr (same ∙ d)
 
   -- where the answer is that it is done, the call is done, or memory was wanted, or a count rose
-  answers_done : (end : End) (h : Answers c shelf shelf' out out' found end put) → (asked c h.understood found).end ≡ IsDone → (status_of end ≡ Done) ⊎ (status_of end ≡ NoMemory)
-  answers_done IsDone h is = inl refl
-  answers_done OutOfMemory h is = inr refl
-  answers_done (ReadFailed file) h is = absurd (fine.read h.comes.0)
-  answers_done WriteFailed h is = absurd (fine.put h.comes.0)
-  answers_done BadWords h is = let e = h.comes.0 ∙ is in cc
-  answers_done (NotAccepted file said) h is = let e = h.comes.0 ∙ is in cc
-  answers_done (NotHeld file) h is = let e = h.comes.0 ∙ is in cc
-  answers_done (TooLong file) h is = let e = h.comes.0 ∙ is in cc
+  answers_done : (end : End) → (status_of end ≡ Usage → ⊥) → (h : Answers c shelf shelf' out out' found end put) → IsSure (asked c h.understood found).end → (status_of end ≡ Done) ⊎ (status_of end ≡ NoMemory)
+  answers_done IsDone usage h is = inl refl
+  answers_done OutOfMemory usage h is = inr refl
+  answers_done (ReadFailed file) usage h is = absurd (fine.read h.comes.0)
+  answers_done WriteFailed usage h is = absurd (fine.put h.comes.0)
+  answers_done (KeepFailed file) usage h is = absurd (fine.keep h.comes.0)
+  answers_done BadWords usage h is = absurd (usage refl)
+  answers_done (NotAccepted file said) usage h is = other (done_not _ _ h.comes.0 is)
+    where
+      other : IsSure (NotAccepted file said) → (status_of (NotAccepted file said) ≡ Done) ⊎ (status_of (NotAccepted file said) ≡ NoMemory)
+      other (inl e) = absurd (cc)
+      other (inr e) = absurd (cc)
+  answers_done (NotHeld file) usage h is = other (done_not _ _ h.comes.0 is)
+    where
+      other : IsSure (NotHeld file) → (status_of (NotHeld file) ≡ Done) ⊎ (status_of (NotHeld file) ≡ NoMemory)
+      other (inl e) = absurd (cc)
+      other (inr e) = absurd (cc)
+  answers_done (TooLong file) usage h is = other (done_not _ _ h.comes.0 is)
+    where
+      other : IsSure (TooLong file) → (status_of (TooLong file) ≡ Done) ⊎ (status_of (TooLong file) ≡ NoMemory)
+      other (inl e) = absurd (cc)
+      other (inr e) = absurd (cc)
+  answers_done (NoTrace file why) usage h is = other (done_not _ _ h.comes.0 is)
+    where
+      other : IsSure (NoTrace file why) → (status_of (NoTrace file why) ≡ Done) ⊎ (status_of (NoTrace file why) ≡ NoMemory)
+      other (inl e) = absurd (cc)
+      other (inr e) = absurd (cc)
 
-  goes_done : (end : End) → Breaks shelf shelf' (names c) end put ⊎ Answers c shelf shelf' out out' found end put → ((h : Answers c shelf shelf' out out' found end put) → (asked c h.understood found).end ≡ IsDone) → (status_of end ≡ Done) ⊎ (status_of end ≡ NoMemory)
-  goes_done end (inl h) is = breaks_done end h
-  goes_done end (inr h) is = answers_done end h (is h)
-
--- a file that is held is got
-got : (file : List ℕ) (most : ℕ) (said : Said) (found : Option (List ℕ)) (h : IsHeld said most) → Agrees said found → gets file most found ≡ Gets h.bytes
-got file most said found h agrees =
-    let is : found ≡ Some h.bytes = subst (λ (s : Said). Agrees s found) h.is agrees in
-    rw is (grind (arith, h.short))
-
--- a text is one program at most
-same_program : (source : List ℕ) (a : IsAccepted source) (u : full.UnitShape) (t : TablesShape) → front.IsRead Plain source (front.program u t) → front.program u t ≡ front.program a.unit a.tables
-same_program source a u t read = (is_one Plain source).program_alone a.unit a.tables (front.program u t) a.read read
-
--- a text that is accepted is not rejected
-not_rejected : (source said : List ℕ) → IsAccepted source → Rejection source said → ⊥
-not_rejected source said a (by_front number p read is) =
-    let e : front.refused number p ≡ front.program a.unit a.tables = (is_one Plain source).program_alone a.unit a.tables (front.refused number p) a.read read in
-    absurd (cc)
-not_rejected source said a (by_sites u t number p read is_refused is) =
-    let e : front.program u t ≡ front.program a.unit a.tables = same_program source a u t read in
-    let same_unit : u ≡ a.unit = cc in
-    let same_tables : t ≡ a.tables = cc in
-    let none : refusal t u ≡ None = rw (same_unit, same_tables) a.clean in
-    absurd (cc)
-
--- and it has the same counts, whenever it is counted
-same_counts : (source : List ℕ) (a b : IsAccepted source) → counts_of b.tables b.unit ≡ counts_of a.tables a.unit
-same_counts source a b =
-    let e : front.program b.unit b.tables ≡ front.program a.unit a.tables = same_program source a b.unit b.tables b.read in
-    let same_unit : b.unit ≡ a.unit = cc in
-    let same_tables : b.tables ≡ a.tables = cc in
-    rw (same_unit, same_tables) refl
+  goes_done : (end : End) → (status_of end ≡ Usage → ⊥) → Breaks shelf shelf' (names c) end put ⊎ Answers c shelf shelf' out out' found end put → ((h : Answers c shelf shelf' out out' found end put) → IsSure (asked c h.understood found).end) → (status_of end ≡ Done) ⊎ (status_of end ≡ NoMemory)
+  goes_done end usage (inl h) is = breaks_done end h
+  goes_done end usage (inr h) is = answers_done end usage h (is h)
 
 -- the answer that tells these counts
 abbrev told : Counts → Answer
@@ -93,32 +85,10 @@ checked_done program p source (Counted n) g a is = check_done program p source g
 checked_done program p source (Listed text) g a is = absurd is
 checked_done program p source (Runs P) g a is = absurd is
 checked_done program p source (Covers P items) g a is = absurd is
-
--- and it is the same program
-pub same_source : (source : List ℕ) (a b : IsAccepted source) → program_in b ≡ program_in a
-same_source source a b =
-    let e : front.program b.unit b.tables ≡ front.program a.unit a.tables = same_program source a b.unit b.tables b.read in
-    let same_unit : b.unit ≡ a.unit = cc in
-    let same_tables : b.tables ≡ a.tables = cc in
-    rw (same_unit, same_tables) refl
-
--- what is said of one program's sites is said of the same program
-few_moved : (u v : full.UnitShape) (t s : TablesShape) (found : Sites) → u ≡ v → t ≡ s → AreNumbered t.structures (items_of t u) found → AreTooMany t u found
-    → AreNumbered s.structures (items_of s v) found × AreTooMany s v found
-few_moved u v t s found same_unit same_tables n m = (
-  subst (λ (x : TablesShape). AreNumbered x.structures (items_of x v) found) same_tables (subst (λ (x : full.UnitShape). AreNumbered t.structures (items_of t x) found) same_unit n),
-  subst (λ (x : TablesShape). AreTooMany x v found) same_tables (subst (λ (x : full.UnitShape). AreTooMany t x found) same_unit m),
-)
-
--- a text that is accepted and whose pairs aren't too many has a list
-not_unlisted : (source said : List ℕ) (a : IsAccepted source) → ((s : Sites) → AreNumbered a.tables.structures (items_of a.tables a.unit) s → AreTooMany a.tables a.unit s → ⊥) → Unlisted source said → ⊥
-not_unlisted source said a few (not_accepted r) = not_rejected source said a r
-not_unlisted source said a few (too_many b s n m is) =
-    let e : front.program b.unit b.tables ≡ front.program a.unit a.tables = same_program source a b.unit b.tables b.read in
-    let same_unit : b.unit ≡ a.unit = cc in
-    let same_tables : b.tables ≡ a.tables = cc in
-    let moved = few_moved b.unit a.unit b.tables a.tables s same_unit same_tables n m in
-    few s moved.0 moved.1
+checked_done program p source (Probes text) g a is = absurd is
+checked_done program p source (Viewed P items reads) g a is = absurd is
+checked_done program p source (Merges reads sum) g a is = absurd is
+checked_done program p source (Records P old new) g a is = absurd is
 
 -- it is listed
 listed_done : (program : List ℕ) (p : Option (List ℕ)) (source : List ℕ) (u : Reading) → gets program 1048576 p ≡ Gets source → (a : IsAccepted source) → ((s : Sites) → AreNumbered a.tables.structures (items_of a.tables a.unit) s → AreTooMany a.tables a.unit s → ⊥)
@@ -128,19 +98,10 @@ listed_done program p source (Listed text) g a few is = ap (λ (x : Answer). x.e
 listed_done program p source (Counted m) g a few is = absurd is
 listed_done program p source (Runs R) g a few is = absurd is
 listed_done program p source (Covers R items) g a few is = absurd is
-
--- a text that is read with probes is not refused so, and is one program
-not_unread : (source said : List ℕ) (P : Source) → IsProbed source P → Unread source said → ⊥
-not_unread source said P read r =
-    let e : front.refused r.number r.place ≡ front.program P.unit P.tables = (is_one Probed source).program_alone P.unit P.tables (front.refused r.number r.place) read r.read in
-    absurd (cc)
-
-one_probed : (source : List ℕ) (P Q : Source) → IsProbed source P → IsProbed source Q → Q ≡ P
-one_probed source P Q a b =
-    let e : front.program Q.unit Q.tables ≡ front.program P.unit P.tables = (is_one Probed source).program_alone P.unit P.tables (front.program Q.unit Q.tables) a b in
-    let same_unit : Q.unit ≡ P.unit = cc in
-    let same_tables : Q.tables ≡ P.tables = cc in
-    ap (λ u. record { unit = u; tables = Q.tables }) same_unit ∙ ap (λ t. record { unit = P.unit; tables = t }) same_tables
+listed_done program p source (Probes text) g a few is = absurd is
+listed_done program p source (Viewed R items reads) g a few is = absurd is
+listed_done program p source (Merges reads sum) g a few is = absurd is
+listed_done program p source (Records R old new) g a few is = absurd is
 
 -- the answer that puts these sections, and the report of what the runs on these inputs show
 abbrev covered_answer : Source → ItemLists → ℕ → List (List ℕ) → List (List ℕ) → Answer
@@ -164,14 +125,6 @@ covering_done P items n says (i ∷ inputs) (f ∷ found) (b ∷ all) done so_fa
     ∙ ap (λ z. covered_answer P items n z ((so_far ++ b ∷ []) ++ all)) (append_assoc done (section i P b n ∷ []) (sections P n inputs all))
     ∙ ap (λ z. covered_answer P items n (done ++ sections P n (i ∷ inputs) (b ∷ all)) z) (append_assoc so_far (b ∷ []) all)
 
--- what is said of the items of one program is said of the same program
-has_moved : (source : List ℕ) (a b : IsAccepted source) (items : ItemLists) → HasItems b items → HasItems a items
-has_moved source a b items h = record {
-  sites = h.sites;
-  numbered = subst (λ (P : Source). AreNumbered P.tables.structures (items_of P.tables P.unit) h.sites) (same_source source a b) h.numbered;
-  are = subst (λ (P : Source). AreItems P.tables P.unit h.sites items) (same_source source a b) h.are;
-}
-
 -- it is covered
 record IsShown (n : ℕ) (program : List ℕ) (inputs : List (List ℕ)) (p : Option (List ℕ)) (found : List (Option (List ℕ))) (source : List ℕ) (u : Reading) (a : IsAccepted source) (all : List (List ℕ)) : Type 0 where
   items : ItemLists
@@ -185,6 +138,10 @@ covered_done n program inputs says p found source (Refuses said) g agrees all he
 covered_done n program inputs says p found source (Counted m) g agrees all held a is some = absurd is
 covered_done n program inputs says p found source (Listed text) g agrees all held a is some = absurd is
 covered_done n program inputs says p found source (Runs R) g agrees all held a is some = absurd is
+covered_done n program inputs says p found source (Probes text) g agrees all held a is some = absurd is
+covered_done n program inputs says p found source (Viewed R items reads) g agrees all held a is some = absurd is
+covered_done n program inputs says p found source (Merges reads sum) g agrees all held a is some = absurd is
+covered_done n program inputs says p found source (Records R old new) g agrees all held a is some = absurd is
 covered_done n program inputs says p found source (Covers R items) g agrees all held a is some = record {
   items = items;
   has = has_moved source a is.accepted items is.has;
@@ -201,37 +158,59 @@ ran_done n program input p i source bytes P (Refuses said) g h read is = absurd 
 ran_done n program input p i source bytes P (Counted m) g h read is = absurd is
 ran_done n program input p i source bytes P (Listed text) g h read is = absurd is
 ran_done n program input p i source bytes P (Covers R items) g h read is = absurd is
+ran_done n program input p i source bytes P (Probes text) g h read is = absurd is
+ran_done n program input p i source bytes P (Viewed R items reads) g h read is = absurd is
+ran_done n program input p i source bytes P (Merges reads sum) g h read is = absurd is
+ran_done n program input p i source bytes P (Records R old new) g h read is = absurd is
 ran_done n program input p i source bytes P (Runs R) g h read is = ap (λ (a : Answer). a.end) (run_done n program input p i source g R bytes h)
 
-supposed : (command : Command) (says : List ℕ → Said) (found : List (Option (List ℕ))) (u : Reading) → AllAgree says (names (Some command)) found → Supposes command says → Understands (Some command) found u → (asked (Some command) u found).end ≡ IsDone
+supposed : (command : Command) (says : List ℕ → Said) (found : List (Option (List ℕ))) (u : Reading) → AllAgree says (names (Some command)) found → Supposes command says → Understands (Some command) found u → IsSure (asked (Some command) u found).end
 supposed (Check program) says (p ∷ []) u agrees h is =
     let g = got program 1048576 _ p h.held agrees.0 in
-    ap (λ (a : Answer). a.end) (checked_done program p _ u g h.accepted (subst (λ x. IsOfGot (Check program) x u) g is))
+    inl (ap (λ (a : Answer). a.end) (checked_done program p _ u g h.accepted (subst (λ x. IsOfGot (Check program) x u) g is.0)))
 supposed (Check program) says [] u agrees h is = absurd agrees
 supposed (Check program) says (p ∷ i ∷ rest) u agrees h is = absurd agrees.1
 supposed (ListItems program) says (p ∷ []) u agrees h is =
     let g = got program 1048576 _ p h.passes.held agrees.0 in
-    listed_done program p _ u g h.passes.accepted h.few (subst (λ x. IsOfGot (ListItems program) x u) g is)
+    inl (listed_done program p _ u g h.passes.accepted h.few (subst (λ x. IsOfGot (ListItems program) x u) g is.0))
 supposed (ListItems program) says [] u agrees h is = absurd agrees
 supposed (ListItems program) says (p ∷ i ∷ rest) u agrees h is = absurd agrees.1
 supposed (Cover n program inputs) says [] u agrees h is = absurd agrees
 supposed (Cover n program inputs) says (p ∷ found) u agrees h is =
     let g = got program 1048576 _ p h.0.passes.held agrees.0 in
-    let understood = subst (λ x. IsOfGot (Cover n program inputs) x u) g is in
-    ap (λ (a : Answer). a.end)
+    let understood = subst (λ x. IsOfGot (Cover n program inputs) x u) g is.0 in
+    inl (ap (λ (a : Answer). a.end)
     (covered_done n program inputs says p found _ u g agrees.1 h.1.0 h.1.1 h.0.passes.accepted understood
-    (λ said e. not_unlisted _ said h.0.passes.accepted h.0.few (subst (λ r. IsUnderstood (Cover n program inputs) h.0.passes.held.bytes r) e understood))).answer
+    (λ said e. not_unlisted _ said h.0.passes.accepted h.0.few (subst (λ r. IsUnderstood (Cover n program inputs) h.0.passes.held.bytes r) e understood))).answer)
 supposed (Run n program input) says (p ∷ i ∷ []) u agrees h is =
     let g = got program 67108864 _ p h.0.held agrees.0 in
-    ran_done n program input p i _ _ h.0.program u g (got input input_most _ i h.1 agrees.1.0) h.0.read (subst (λ x. IsOfGot (Run n program input) x u) g is)
+    inl (ran_done n program input p i _ _ h.0.program u g (got input input_most _ i h.1 agrees.1.0) h.0.read (subst (λ x. IsOfGot (Run n program input) x u) g is.0))
 supposed (Run n program input) says [] u agrees h is = absurd agrees
 supposed (Run n program input) says (p ∷ []) u agrees h is = absurd agrees.1
 supposed (Run n program input) says (p ∷ i ∷ j ∷ rest) u agrees h is = absurd agrees.1.1
+supposed (Instrument program out) says (p ∷ []) u agrees h is =
+    let g = got program 1048576 _ p h.passes.held agrees.0 in
+    inl (written_done program out p _ u g h.passes.accepted h.fits (subst (λ x. IsOfGot (Instrument program out) x u) g is.0))
+supposed (Instrument program out) says [] u agrees h is = absurd agrees
+supposed (Instrument program out) says (p ∷ i ∷ rest) u agrees h is = absurd agrees.1
+supposed (Tell v program traces) says [] u agrees h is = absurd agrees
+supposed (Tell v program traces) says (p ∷ found) u agrees h is =
+    let g = got program 1048576 _ p h.0.passes.held agrees.0 in
+    told_done v program traces says p found _ u g agrees.1 h.1.0 h.1.1 h.0.passes.accepted h.0.few (subst (λ x. IsOfGot (Tell v program traces) x u) g is.0) is.1
+supposed (Merge out []) says found u agrees h is = absurd h
+supposed (Merge out (first ∷ rest)) says found u agrees h is = merged_done out first rest says found u agrees h.0 h.1.0 h.1.1 h.1.2 is
+supposed (RunInto n program input trace) says (p ∷ i ∷ t ∷ []) u agrees h is =
+    let g = got program 67108864 _ p h.runs.held agrees.0 in
+    into_done n program input trace says p i t _ _ u g (got input input_most _ i h.input agrees.1.0) agrees.1.1.0 h.runs.program h.runs.read h.digest h.line h.old h.holds h.few (subst (λ x. IsOfGot (RunInto n program input trace) x u) g is.0) is.1
+supposed (RunInto n program input trace) says [] u agrees h is = absurd agrees
+supposed (RunInto n program input trace) says (p ∷ []) u agrees h is = absurd agrees.1
+supposed (RunInto n program input trace) says (p ∷ i ∷ []) u agrees h is = absurd agrees.1.1
+supposed (RunInto n program input trace) says (p ∷ i ∷ t ∷ j ∷ rest) u agrees h is = absurd agrees.1.1.1
 
 pub complete_for : (command : Command) (shelf shelf' : ShelfState) (out out' err err' : SinkState) (status : Status) → whole.Runs (Some command) shelf shelf' out out' err err' status
-    → Supposes command shelf.says → NoFault shelf shelf' out out' → (status ≡ Done) ⊎ (status ≡ NoMemory)
-complete_for command shelf shelf' out out' err err' status h supposes fine =
-    rw h.status_is (goes_done (Some command) shelf shelf' out out' h.goes.found h.goes.put fine h.end h.goes.comes (λ a. supposed command shelf.says h.goes.found a.understood h.goes.agrees supposes a.is))
+    → (status ≡ Usage → ⊥) → Supposes command shelf.says → NoFault shelf shelf' out out' → (status ≡ Done) ⊎ (status ≡ NoMemory)
+complete_for command shelf shelf' out out' err err' status h usage supposes fine =
+    rw h.status_is (goes_done (Some command) shelf shelf' out out' h.goes.found h.goes.put fine h.end (λ e. usage (h.status_is ∙ e)) h.goes.comes (λ a. supposed command shelf.says h.goes.found a.understood h.goes.agrees supposes a.is))
 
 -- THE HEADLINE
 
@@ -245,7 +224,7 @@ shown_text : (n : ℕ) (program : List ℕ) (inputs : List (List ℕ)) (says : L
 shown_text n program inputs says [] u agrees is done p all held = absurd agrees
 shown_text n program inputs says (f ∷ found) u agrees is done p all held =
     let g = got program 1048576 _ f p.held agrees.0 in
-    let understood = subst (λ x. IsOfGot (Cover n program inputs) x u) g is in
+    let understood = subst (λ x. IsOfGot (Cover n program inputs) x u) g is.0 in
     let h = covered_done n program inputs says f found p.held.bytes u g agrees.1 all held p.accepted understood (λ said e. not_done said e) in
     (h.items, h.has, ap (λ (a : Answer). text a) h.answer)
   where
@@ -262,13 +241,17 @@ ran_text n program input p i source bytes P (Refuses said) g h read is = absurd 
 ran_text n program input p i source bytes P (Counted m) g h read is = absurd is
 ran_text n program input p i source bytes P (Listed text) g h read is = absurd is
 ran_text n program input p i source bytes P (Covers R items) g h read is = absurd is
+ran_text n program input p i source bytes P (Probes text) g h read is = absurd is
+ran_text n program input p i source bytes P (Viewed R items reads) g h read is = absurd is
+ran_text n program input p i source bytes P (Merges reads sum) g h read is = absurd is
+ran_text n program input p i source bytes P (Records R old new) g h read is = absurd is
 ran_text n program input p i source bytes P (Runs R) g h read is = run_text n program input p i source g R bytes h ∙ ap (λ (x : Source). section input x bytes n) (one_probed source P R read is)
 
 run_shown : (n : ℕ) (program input : List ℕ) (says : List ℕ → Said) (found : List (Option (List ℕ))) (u : Reading) → AllAgree says (names (Some (Run n program input))) found → Understands (Some (Run n program input)) found u
     → (p : IsRunnable (says program)) (i : IsHeld (says input) input_most) → text (asked (Some (Run n program input)) u found) ≡ section input p.program i.bytes n
 run_shown n program input says (f ∷ g ∷ []) u agrees is p i =
     let got_source = got program 67108864 _ f p.held agrees.0 in
-    ran_text n program input f g _ _ p.program u got_source (got input input_most _ g i agrees.1.0) p.read (subst (λ x. IsOfGot (Run n program input) x u) got_source is)
+    ran_text n program input f g _ _ p.program u got_source (got input input_most _ g i agrees.1.0) p.read (subst (λ x. IsOfGot (Run n program input) x u) got_source is.0)
 run_shown n program input says [] u agrees is p i = absurd agrees
 run_shown n program input says (f ∷ []) u agrees is p i = absurd agrees.1
 run_shown n program input says (f ∷ g ∷ k ∷ rest) u agrees is p i = absurd agrees.1.1
@@ -277,7 +260,7 @@ counted_text : (program : List ℕ) (says : List ℕ → Said) (found : List (Op
     → (p : Passes (says program)) → text (asked (Some (Check program)) u found) ≡ counts_text (counts_of p.accepted.tables p.accepted.unit)
 counted_text program says (f ∷ []) u agrees is p =
     let got_source = got program 1048576 _ f p.held agrees.0 in
-    ap (λ (a : Answer). text a) (checked_done program f _ u got_source p.accepted (subst (λ x. IsOfGot (Check program) x u) got_source is))
+    ap (λ (a : Answer). text a) (checked_done program f _ u got_source p.accepted (subst (λ x. IsOfGot (Check program) x u) got_source is.0))
 counted_text program says [] u agrees is p = absurd agrees
 counted_text program says (f ∷ g ∷ rest) u agrees is p = absurd agrees.1
 
@@ -285,7 +268,7 @@ listed_text : (program : List ℕ) (says : List ℕ → Said) (found : List (Opt
     → (p : Passes (says program)) → (asked (Some (ListItems program)) u found).end ≡ IsDone → IsListing p.held.bytes (text (asked (Some (ListItems program)) u found))
 listed_text program says (f ∷ []) u agrees is p done =
     let got_source = got program 1048576 _ f p.held agrees.0 in
-    shown u (subst (λ x. IsOfGot (ListItems program) x u) got_source is) done
+    shown u (subst (λ x. IsOfGot (ListItems program) x u) got_source is.0) done
   where
     shown : (u : Reading) → IsUnderstood (ListItems program) p.held.bytes u → (asked (Some (ListItems program)) u (f ∷ [])).end ≡ IsDone → IsListing p.held.bytes (text (asked (Some (ListItems program)) u (f ∷ [])))
     shown (Refuses said) is done =
@@ -297,15 +280,27 @@ listed_text program says (f ∷ []) u agrees is p done =
     shown (Counted m) is done = absurd is
     shown (Runs R) is done = absurd is
     shown (Covers R items) is done = absurd is
+    shown (Probes text) is done = absurd is
+    shown (Viewed R items reads) is done = absurd is
+    shown (Merges reads sum) is done = absurd is
+    shown (Records R old new) is done = absurd is
 listed_text program says [] u agrees is p done = absurd agrees
 listed_text program says (f ∷ g ∷ rest) u agrees is p done = absurd agrees.1
 
-done_put : (c : Option Command) (shelf shelf' : ShelfState) (out out' : SinkState) (end : End) (h : Goes c shelf shelf' out out' end) → status_of end ≡ Done → (u : Reading) × Understands c h.found u × (h.put ≡ text (asked c u h.found)) × ((asked c u h.found).end ≡ IsDone)
+-- what a call that is done was asked, put and kept
+record IsDoneSo (c : Option Command) (shelf shelf' : ShelfState) (found : List (Option (List ℕ))) (piece : List ℕ) : Type 0 where
+  reading : Reading
+  understood : Understands c found reading
+  put : piece ≡ text (asked c reading found)
+  end : (asked c reading found).end ≡ IsDone
+  keeps : Keeps (asked c reading found).kept IsDone shelf shelf'
+
+done_put : (c : Option Command) (shelf shelf' : ShelfState) (out out' : SinkState) (end : End) (h : Goes c shelf shelf' out out' end) → status_of end ≡ Done → IsDoneSo c shelf shelf' h.found h.put
 done_put c shelf shelf' out out' IsDone h is = by_way h.comes
   where
-    by_way : Breaks shelf shelf' (names c) IsDone h.put ⊎ Answers c shelf shelf' out out' h.found IsDone h.put → (u : Reading) × Understands c h.found u × (h.put ≡ text (asked c u h.found)) × ((asked c u h.found).end ≡ IsDone)
+    by_way : Breaks shelf shelf' (names c) IsDone h.put ⊎ Answers c shelf shelf' out out' h.found IsDone h.put → IsDoneSo c shelf shelf' h.found h.put
     by_way (inl b) = absurd b
-    by_way (inr a) = (a.understood, a.is, a.comes.1, sym a.comes.0)
+    by_way (inr a) = record { reading = a.understood; understood = a.is; put = a.comes.1; end = sym a.comes.0; keeps = a.keeps }
 done_put c shelf shelf' out out' OutOfMemory h is = absurd (cc)
 done_put c shelf shelf' out out' (ReadFailed file) h is = absurd (cc)
 done_put c shelf shelf' out out' WriteFailed h is = absurd (cc)
@@ -313,18 +308,37 @@ done_put c shelf shelf' out out' BadWords h is = absurd (cc)
 done_put c shelf shelf' out out' (NotAccepted file said) h is = absurd (cc)
 done_put c shelf shelf' out out' (NotHeld file) h is = absurd (cc)
 done_put c shelf shelf' out out' (TooLong file) h is = absurd (cc)
+done_put c shelf shelf' out out' (NoTrace file why) h is = absurd (cc)
+done_put c shelf shelf' out out' (KeepFailed file) h is = absurd (cc)
 
-pub shows : (command : Command) (shelf shelf' : ShelfState) (out out' : SinkState) (end : End) → Goes (Some command) shelf shelf' out out' end → status_of end ≡ Done → Shows command shelf.says out out'
+pub shows : (command : Command) (shelf shelf' : ShelfState) (out out' : SinkState) (end : End) → Goes (Some command) shelf shelf' out out' end → status_of end ≡ Done → Shows command shelf shelf' out out'
 shows (Check program) shelf shelf' out out' end h is = λ p.
     let d = done_put (Some (Check program)) shelf shelf' out out' end h is in
-    h.bytes ∙ ap (append_known out.bytes) (d.2 ∙ counted_text program shelf.says h.found d.0 h.agrees d.1 p)
+    h.bytes ∙ ap (append_known out.bytes) (d.put ∙ counted_text program shelf.says h.found d.reading h.agrees d.understood p)
 shows (ListItems program) shelf shelf' out out' end h is = λ p.
     let d = done_put (Some (ListItems program)) shelf shelf' out out' end h is in
-    (_, listed_text program shelf.says h.found d.0 h.agrees d.1 p d.3, h.bytes ∙ ap (append_known out.bytes) d.2)
+    (_, listed_text program shelf.says h.found d.reading h.agrees d.understood p d.end, h.bytes ∙ ap (append_known out.bytes) d.put)
 shows (Cover n program inputs) shelf shelf' out out' end h is = λ p all held.
     let d = done_put (Some (Cover n program inputs)) shelf shelf' out out' end h is in
-    let t = shown_text n program inputs shelf.says h.found d.0 h.agrees d.1 d.3 p all held in
-    (t.0, t.1, h.bytes ∙ ap (append_known out.bytes) (d.2 ∙ t.2))
+    let t = shown_text n program inputs shelf.says h.found d.reading h.agrees d.understood d.end p all held in
+    (t.0, t.1, h.bytes ∙ ap (append_known out.bytes) (d.put ∙ t.2))
 shows (Run n program input) shelf shelf' out out' end h is = λ p i.
     let d = done_put (Some (Run n program input)) shelf shelf' out out' end h is in
-    h.bytes ∙ ap (append_known out.bytes) (d.2 ∙ run_shown n program input shelf.says h.found d.0 h.agrees d.1 p i)
+    h.bytes ∙ ap (append_known out.bytes) (d.put ∙ run_shown n program input shelf.says h.found d.reading h.agrees d.understood p i)
+shows (Instrument program name) shelf shelf' out out' end h is = λ p.
+    let d = done_put (Some (Instrument program name)) shelf shelf' out out' end h is in
+    let a = written_answer program name shelf.says h.found d.reading h.agrees d.understood p d.end in
+    (h.bytes ∙ ap (append_known out.bytes) (d.put ∙ ap (λ (x : Answer). text x) a), kept_so _ _ _ shelf shelf' (ap (λ (x : Answer). x.kept) a) d.keeps)
+shows (Tell v program traces) shelf shelf' out out' end h is = λ p ts held.
+    let d = done_put (Some (Tell v program traces)) shelf shelf' out out' end h is in
+    let t = told_text v program traces shelf.says h.found d.reading h.agrees d.understood d.end p ts held in
+    (t.items, t.has, h.bytes ∙ ap (append_known out.bytes) (d.put ∙ t.is))
+shows (Merge name []) shelf shelf' out out' end h is = tt
+shows (Merge name (first ∷ rest)) shelf shelf' out out' end h is = λ digest ts held.
+    let d = done_put (Some (Merge name (first ∷ rest))) shelf shelf' out out' end h is in
+    let t = merged_answer name first rest shelf.says h.found d.reading h.agrees d.understood d.end digest ts held in
+    (t.sum, t.is, h.bytes ∙ ap (append_known out.bytes) (d.put ∙ ap (λ (x : Answer). text x) t.answer), kept_so _ _ _ shelf shelf' (ap (λ (x : Answer). x.kept) t.answer) d.keeps)
+shows (RunInto n program input trace) shelf shelf' out out' end h is = λ p i digest line old holds.
+    let d = done_put (Some (RunInto n program input trace)) shelf shelf' out out' end h is in
+    let t = into_answer n program input trace shelf.says h.found d.reading h.agrees d.understood d.end p i digest line old holds in
+    (t.new, t.is, h.bytes ∙ ap (append_known out.bytes) (d.put ∙ ap (λ (x : Answer). text x) t.answer), kept_so _ _ _ shelf shelf' (ap (λ (x : Answer). x.kept) t.answer) d.keeps)

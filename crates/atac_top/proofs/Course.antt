@@ -1,26 +1,27 @@
 -- A cover over several inputs, input by input.
-use Rattle.std.proofs.Common.{◌≡◌, ◌⊎◌, inl, inr, refl, ap, sym, ◌∙◌, subst, List, [], ◌∷◌, ◌++◌, length, map, take, drop, ℕ, ◌+◌, ◌-◌, ◌≤◌, ◌<◌, Option, None, Some, arith, append_assoc, append-nil, get_or, drop-cons, add-one}
+use Rattle.std.proofs.Common.{◌≡◌, inl, inr, refl, ap, sym, ◌∙◌, subst, List, [], ◌∷◌, ◌++◌, length, map, take, drop, ℕ, ◌+◌, ◌-◌, ◌≤◌, ◌<◌, Option, Some, arith, append_assoc, append-nil, get_or, drop-cons, add-one}
 use Rattle.std.proofs.lemmas.Grind.{common_steps}
 use Rattle.std.proofs.lemmas.List.{at_drop_all}
-use Rattle.std.specs.Prelude.{slice_get, Result, Ok, Err}
+use Rattle.std.specs.Prelude.{slice_get, Result}
 use Rattle.std.specs.Io.KnownBytes.{append_known}
 use Rattle.atac_base.specs.Items.{ItemLists}
-use Rattle.atac_base.specs.Outside.{ShelfState, SinkState, Said, Agrees, Rose, IsFront}
+use Rattle.atac_base.specs.Outside.{ShelfState, SinkState, Said, Agrees}
 use Rattle.c_meaning.specs.Calls.{Source}
-use Rattle.atac_top.specs.Words.{Command, Cover}
-use Rattle.atac_top.specs.Ends.{End, IsDone, BadWords, OutOfMemory}
+use Rattle.atac_words.specs.Words.{Command, Cover}
+use Rattle.atac_steps.specs.Ends.{End, BadWords, OutOfMemory}
 use Rattle.atac_top.specs.Programs.{Reading, Covers, IsUnderstood, section, report}
-use Rattle.atac_top.specs.Answers.{Answer, asked, names, joined, text, refused, given, covering, Got, gets, Gets, Stops, input_most}
-use Rattle.atac_top.specs.Grows.{ShelfGrows, SinkGrows}
-use Rattle.atac_top.specs.Runs.{AllAgree, Goes}
-use Rattle.atac_top.specs.Steps.{FetchStops, PutStops, Puts}
-use Rattle.atac_top.specs.Stops.{end_of, ended}
-use Rattle.atac_top.specs.declared.stop.Stop.{Stop}
+use Rattle.atac_top.specs.Answers.{Answer, asked, names, joined, text, refused, given, covering, input_most}
+use Rattle.atac_steps.specs.Got.{Got, gets, Gets, Stops, AllAgree}
+use Rattle.atac_steps.specs.Grows.{ShelfGrows, SinkGrows}
+use Rattle.atac_top.specs.Runs.{Goes}
+use Rattle.atac_steps.specs.Steps.{Puts}
+use Rattle.atac_steps.specs.Stops.{ended}
+use Rattle.atac_steps.specs.declared.stop.Stop.{Stop}
 use Rattle.atac_top.specs.Progress.{SectionStops, Came}
 use Rattle.atac_top.proofs.Asked.{cover_understands, cover_goes}
 use Rattle.atac_top.proofs.Exits.{wants_memory, fetch_stops, put_stops, put_ends, front_of, known_nothing, known_twice}
-use Rattle.atac_top.proofs.Found.{guess, guess_agrees}
-use Rattle.atac_top.proofs.Growing.{sink_stays, shelf_goes_on, sink_goes_on}
+use Rattle.atac_steps.proofs.Found.{guess, guess_agrees}
+use Rattle.atac_steps.proofs.Growing.{sink_stays, shelf_goes_on, sink_goes_on}
 
 pub joined-append : (xs ys : List (List ℕ)) → joined (xs ++ ys) ≡ joined xs ++ joined ys
 joined-append [] ys = refl
@@ -38,7 +39,7 @@ pub guesses_agree : (says : List ℕ → Said) (names : List (List ℕ)) → All
 guesses_agree says [] = tt
 guesses_agree says (name ∷ names) = (guess_agrees (says name), guesses_agree says names)
 
-at_length : (xs : List (List ℕ)) (y : List ℕ) (ys : List (List ℕ)) → slice_get (xs ++ y ∷ ys) (length xs) ≡ Some y
+pub at_length : (xs : List (List ℕ)) (y : List ℕ) (ys : List (List ℕ)) → slice_get (xs ++ y ∷ ys) (length xs) ≡ Some y
 at_length [] y ys = refl
 at_length (x ∷ xs) y ys = at_length xs y ys
 

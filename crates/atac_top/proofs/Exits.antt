@@ -1,18 +1,20 @@
 -- The ways out of a command: at a fetch, at a program that isn't understood, at a put, for want of memory, and at its end.
-use Rattle.std.proofs.Common.{◌≡◌, inl, inr, refl, ap, sym, ◌∙◌, List, [], ◌∷◌, ◌++◌, ℕ, ◌-◌, Option, None, Some, take, append_assoc, append-nil}
+use Rattle.std.proofs.Common.{◌≡◌, ◌≢◌, inl, inr, refl, ap, sym, ◌∙◌, List, [], ◌∷◌, ◌++◌, ℕ, ◌-◌, Option, None, Some, take, append_assoc, append-nil}
 use Rattle.std.specs.Prelude.{slice_get, Result, Ok, Err}
 use Rattle.std.specs.Io.KnownBytes.{append_known}
-use Rattle.atac_base.specs.Outside.{ShelfState, SinkState, IsFront}
-use Rattle.atac_top.specs.Words.{Command}
-use Rattle.atac_top.specs.Ends.{End, IsDone, BadWords, NotAccepted, NotHeld, TooLong, ReadFailed, WriteFailed, OutOfMemory}
-use Rattle.atac_top.specs.Answers.{Answer, asked, names, joined, text, refused, gets, Stops}
-use Rattle.atac_top.specs.Grows.{ShelfGrows, SinkGrows}
+use Rattle.atac_base.specs.Outside.{ShelfState, SinkState, Said, IsFront}
+use Rattle.atac_words.specs.Words.{Command}
+use Rattle.atac_steps.specs.Ends.{End, IsDone, BadWords, NotAccepted, NotHeld, TooLong, NoTrace, ReadFailed, WriteFailed, KeepFailed, OutOfMemory}
+use Rattle.atac_top.specs.Answers.{Answer, asked, names, joined, text, refused}
+use Rattle.atac_steps.specs.Got.{gets, Stops, AllAgree}
+use Rattle.atac_steps.specs.Grows.{ShelfGrows, SinkGrows}
 use Rattle.atac_top.specs.Programs.{Reading, Refuses}
-use Rattle.atac_top.specs.Runs.{AllAgree, StaysBut, Comes, Keeps, Understands, Breaks, Goes}
-use Rattle.atac_top.specs.Steps.{FetchStops, PutStops, Puts}
-use Rattle.atac_top.specs.Stops.{end_of, ended}
-use Rattle.atac_top.specs.declared.stop.Stop.{Stop}
-use Rattle.atac_top.proofs.Growing.{rose_since, sink_stays}
+use Rattle.atac_top.specs.Runs.{StaysBut, Comes, Keeps, Understands, Breaks, Goes}
+use Rattle.atac_steps.specs.Steps.{FetchStops, PutStops, Puts, KeepStops, KeepsAs}
+use Rattle.atac_steps.specs.Stops.{end_of, ended}
+use Rattle.atac_steps.specs.declared.stop.Stop.{Stop}
+use Rattle.atac_steps.specs.declared.stop.TraceFault.{TraceFault}
+use Rattle.atac_steps.proofs.Growing.{rose_since, sink_stays, shelf_goes_on}
 
 pub known_nothing : (known : Option (List ℕ)) → known ≡ append_known known []
 known_nothing None = refl
@@ -39,11 +41,16 @@ module _ (asked_for : Option Command) (shelf shelf' : ShelfState) (out out' : Si
   -- want of memory after some whole sections
   pub wants_memory : (k : ℕ) (put : List ℕ) → put ≡ joined (take k (asked asked_for understood found).sections) → out'.bytes ≡ append_known out.bytes put → Goes asked_for shelf shelf' out out' OutOfMemory
   wants_memory k put front bytes =
-      goes _ put (inl (k, front)) (stays _ shelf shelf' same) bytes
+      goes _ put (inl (k, front, same)) (stays _ shelf shelf' same) bytes
 
   -- P isn't understood
   pub not_accepted : (file said : List ℕ) → asked asked_for understood found ≡ refused [] (NotAccepted file said) → out'.bytes ≡ append_known out.bytes [] → Goes asked_for shelf shelf' out out' (NotAccepted file said)
   not_accepted file said is bytes =
+      goes _ [] ((sym (ap (λ (a : Answer). a.end) is), sym (ap (λ (a : Answer). text a) is))) same bytes
+
+  -- a trace is none of the program, or is too large
+  pub no_trace : (file : List ℕ) (why : TraceFault) → asked asked_for understood found ≡ refused [] (NoTrace file why) → out'.bytes ≡ append_known out.bytes [] → Goes asked_for shelf shelf' out out' (NoTrace file why)
+  no_trace file why is bytes =
       goes _ [] ((sym (ap (λ (a : Answer). a.end) is), sym (ap (λ (a : Answer). text a) is))) same bytes
 
   -- the fetch number k stops
@@ -66,6 +73,8 @@ module _ (asked_for : Option Command) (shelf shelf' : ShelfState) (out out' : Si
   fetch_stops k name most f mid put BadWords h at grows is front bytes = absurd h
   fetch_stops k name most f mid put (NotAccepted file said) h at grows is front bytes = absurd h
   fetch_stops k name most f mid put WriteFailed h at grows is front bytes = absurd h
+  fetch_stops k name most f mid put (NoTrace file why) h at grows is front bytes = absurd h
+  fetch_stops k name most f mid put (KeepFailed file) h at grows is front bytes = absurd h
 
   -- a put stops, after the text `before` and a front of its piece
   pub put_stops : (mid : SinkState) (before front : List ℕ) (e : End)
@@ -77,13 +86,15 @@ module _ (asked_for : Option Command) (shelf shelf' : ShelfState) (out out' : Si
   put_stops mid before front WriteFailed h is_front first second grows =
       goes _ (before ++ front) ((rose_since _ _ _ grows.faults h, is_front)) same (rw second (rw first (known_twice out.bytes before front)))
   put_stops mid before front OutOfMemory h is_front first second grows =
-      goes _ (before ++ front) (inr (inr (rose_since _ _ _ grows.wants h, is_front))) (stays _ shelf shelf' same) (rw second (rw first (known_twice out.bytes before front)))
+      goes _ (before ++ front) (inr (inr (rose_since _ _ _ grows.wants h, is_front, same))) (stays _ shelf shelf' same) (rw second (rw first (known_twice out.bytes before front)))
   put_stops mid before front IsDone h is_front first second grows = absurd h
   put_stops mid before front BadWords h is_front first second grows = absurd h
   put_stops mid before front (NotAccepted file said) h is_front first second grows = absurd h
   put_stops mid before front (NotHeld file) h is_front first second grows = absurd h
   put_stops mid before front (TooLong file) h is_front first second grows = absurd h
   put_stops mid before front (ReadFailed file) h is_front first second grows = absurd h
+  put_stops mid before front (NoTrace file why) h is_front first second grows = absurd h
+  put_stops mid before front (KeepFailed file) h is_front first second grows = absurd h
 
   -- a put in the midst of the text
   pub put_breaks : (mid : SinkState) (before piece after : List ℕ) (stop : Stop)
@@ -133,3 +144,43 @@ module _ (asked_for : Option Command) (shelf shelf' : ShelfState) (out : SinkSta
   program_stops name most BadWords h at is = absurd h
   program_stops name most (NotAccepted file said) h at is = absurd h
   program_stops name most WriteFailed h at is = absurd h
+  program_stops name most (NoTrace file why) h at is = absurd h
+  program_stops name most (KeepFailed file) h at is = absurd h
+
+-- what is put and kept where nothing stops the call
+abbrev pub kept_answer : List ℕ → List ℕ → List ℕ → Answer
+kept_answer name bytes rest = record { end = IsDone; sections = []; rest = rest; kept = Some (name, bytes) }
+
+-- a keep, as the last step
+module _ (asked_for : Option Command) (shelf mid shelf' : ShelfState) (out out' : SinkState) (found : List (Option (List ℕ))) (agrees : AllAgree shelf.says (names asked_for) found)
+    (understood : Reading) (is_understood : Understands asked_for found understood) (same : mid.says ≡ shelf.says) (mid_grows : ShelfGrows shelf mid) (out_grows : SinkGrows out out')
+    (name bytes rest : List ℕ) (is : asked asked_for understood found ≡ kept_answer name bytes rest) (put : out'.bytes ≡ append_known out.bytes rest) where
+  others_stay : ((other : List ℕ) → other ≢ name → shelf'.says other ≡ mid.says other) → StaysBut (Some (name, bytes)) shelf shelf'
+  others_stay h other ne = h other ne ∙ ap (λ (says : List ℕ → Said). says other) same
+
+  ends : (e : End) → ShelfGrows mid shelf' → Comes shelf shelf' out out' (names asked_for) (kept_answer name bytes rest) e rest → Keeps (Some (name, bytes)) e shelf shelf' → Goes asked_for shelf shelf' out out' e
+  ends e grows comes keeps = record {
+    found = found;
+    put = rest;
+    agrees = agrees;
+    comes = inr (record { understood = understood; is = is_understood; comes = rw is comes; keeps = rw is keeps });
+    bytes = put;
+    shelf_grows = shelf_goes_on _ _ _ mid_grows grows;
+    out_grows = out_grows;
+  }
+
+  keep_stops : (e : End) → KeepStops mid shelf' name e → ((other : List ℕ) → other ≢ name → shelf'.says other ≡ mid.says other) → ShelfGrows mid shelf' → Goes asked_for shelf shelf' out out' e
+  keep_stops (KeepFailed file) h others grows = ends _ grows (rose_since _ _ _ mid_grows.keep_faults h.1, (bytes, ap (λ (f : List ℕ). Some (f, bytes)) (sym h.0)), refl) (others_stay others)
+  keep_stops OutOfMemory h others grows = ends _ grows (inr (inl (refl, refl))) (others_stay others)
+  keep_stops IsDone h others grows = absurd h
+  keep_stops BadWords h others grows = absurd h
+  keep_stops (NotAccepted file said) h others grows = absurd h
+  keep_stops (NotHeld file) h others grows = absurd h
+  keep_stops (TooLong file) h others grows = absurd h
+  keep_stops (NoTrace file why) h others grows = absurd h
+  keep_stops (ReadFailed file) h others grows = absurd h
+  keep_stops WriteFailed h others grows = absurd h
+
+  pub keep_ends : (r : Result (Unit {0}) Stop) → KeepsAs mid shelf' name bytes r → Goes asked_for shelf shelf' out out' (ended r)
+  keep_ends (Ok x) h = ends IsDone h.grows (refl, refl) (others_stay h.others, λ tells. h.gives (mid_grows.tells ∙ tells))
+  keep_ends (Err stop) h = keep_stops (end_of stop) h.gives h.others h.grows

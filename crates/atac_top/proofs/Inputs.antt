@@ -1,5 +1,5 @@
 -- One input of a cover: its section, and what stands behind it.
-use Rattle.std.proofs.Common.{◌≡◌, ap, sym, ◌∙◌, subst, inr, List, [], ◌∷◌, ◌++◌, ℕ, Option}
+use Rattle.std.proofs.Common.{◌≡◌, ap, ◌∙◌, subst, inr, List, [], ◌∷◌, ◌++◌, ℕ, Option}
 use Rattle.std.specs.Prelude.{Bool, Result, Ok, Err}
 use Rattle.std.specs.Io.KnownBytes.{append_known}
 use Rattle.atac_facts.specs.declared.fact.Fact.{Fact}
@@ -7,10 +7,11 @@ use Rattle.atac_base.specs.Items.{ItemLists}
 use Rattle.atac_base.specs.Outside.{ShelfState, SinkState, IsFront}
 use Rattle.c_meaning.specs.Calls.{Source}
 use Rattle.atac_top.specs.Programs.{section, shown}
-use Rattle.atac_top.specs.Answers.{gets, Gets, input_most}
-use Rattle.atac_top.specs.Steps.{Puts}
+use Rattle.atac_top.specs.Answers.{input_most}
+use Rattle.atac_steps.specs.Got.{gets, Gets}
+use Rattle.atac_steps.specs.Steps.{Puts}
 use Rattle.atac_top.specs.Progress.{Stands, with_run, SectionGives}
-use Rattle.atac_top.specs.declared.stop.Stop.{Stop}
+use Rattle.atac_steps.specs.declared.stop.Stop.{Stop}
 use Rattle.atac_top.specs.declared.covering.Covering.{Covering}
 use Rattle.atac_top.proofs.Running.{shown_more}
 

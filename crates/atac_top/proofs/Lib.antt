@@ -2,10 +2,14 @@ pub mod Asked
 pub mod Claims
 pub mod Course
 pub mod Exits
-pub mod Found
-pub mod Growing
 pub mod Inputs
-pub mod Limits
 pub mod Lines
 pub mod Reading
 pub mod Running
+pub mod Joined
+pub mod Sums
+pub mod Told
+pub mod Merged
+pub mod Into
+pub mod Same
+pub mod Traced

@@ -6,9 +6,9 @@ use Rattle.atac_base.specs.Outside.{SinkState, Counts, Rose, IsFront}
 use Rattle.atac_base.specs.declared.outside.PutErr.{PutErr}
 use Rattle.atac_base.specs.declared.outside.PutErr.TheVariants.{Failed, NoMemory}
 use Rattle.atac_top.specs.Runs.{Tells}
-use Rattle.atac_top.specs.Grows.{SinkGrows}
+use Rattle.atac_steps.specs.Grows.{SinkGrows}
 use Rattle.atac_top.proofs.Exits.{known_twice, front_of}
-use Rattle.atac_top.proofs.Growing.{rose_since, sink_goes_on}
+use Rattle.atac_steps.proofs.Growing.{rose_since, sink_goes_on}
 
 -- what a put said that failed
 pub record Broke (old new : SinkState) (piece : List ℕ) (e : PutErr) : Type 0 where

@@ -1,5 +1,5 @@
 -- What was understood of a text, by what the code answered.
-use Rattle.std.proofs.Common.{◌≡◌, refl, ap, sym, ◌∙◌, subst, List, [], ◌∷◌, ℕ, zero, suc, ◌<◌, ◌≤◌, length, Bool, true, false, nat_lt, Option, None, Some, arith, slice_get}
+use Rattle.std.proofs.Common.{◌≡◌, refl, ap, sym, ◌∙◌, subst, List, [], ◌∷◌, ℕ, zero, suc, ◌<◌, ◌≤◌, length, Bool, true, false, nat_lt, Option, None, Some, arith, cond, slice_get}
 use Rattle.std.proofs.lemmas.Bool.Decides.{nat_tests}
 use Rattle.std.specs.Prelude.{string_bytes, unwrap_or}
 use Rattle.c_events.specs.Owners.{owner_in}
@@ -24,13 +24,22 @@ use Rattle.atac_top.specs.declared.listing.Itemising.{Itemising}
 use Rattle.atac_top.specs.declared.listing.Itemising.TheVariants as itemisings
 use Rattle.atac_top.specs.declared.listing.Listing.{Listing}
 use Rattle.atac_top.specs.declared.listing.Listing.TheVariants as listings
+use Rattle.atac_top.specs.declared.probing.Probing.{Probing}
+use Rattle.atac_top.specs.declared.probing.Probing.TheVariants as probings
+use Rattle.atac_top.specs.declared.recording.Recordable.{Recordable}
+use Rattle.atac_top.specs.declared.recording.Recording.{Recording}
+use Rattle.atac_top.specs.declared.recording.Recording.TheVariants as recordings
 use Rattle.atac_top.specs.declared.program.Understood.{Understood}
 use Rattle.atac_top.specs.declared.program.Runnable.{Runnable}
 use Rattle.atac_top.specs.declared.program.Runnable.TheVariants as runnables
 use Rattle.atac_top.specs.declared.program.Reading.{Reading}
 use Rattle.atac_top.specs.declared.program.Reading.TheVariants as reading
-use Rattle.atac_top.specs.Programs.{Rejection, Unlisted, too_many, HasItems, IsListing, Unread, IsProbed, refusal_text}
-use Rattle.atac_top.specs.Understanding.{HasSites, CheckedAs, IsItemised, ItemisedAs, ListedAs, CoveredAs, ReadAs, RunAs}
+use Rattle.atac_top.specs.Programs.{Rejection, Unlisted, too_many, HasItems, IsListing, IsInstrumented, Uninstrumented, Unread, Unrecorded, IsProbed, owner_in_probed, program_in, with_probes, refusal_text}
+use Rattle.hex.specs.Hex.{encode_lower}
+use Rattle.sha2.specs.Sha256.{sha256}
+use Rattle.probe_rules.specs.Instrumented.{instrumented}
+use Rattle.c_sites_probes.specs.Owned.{owned_in}
+use Rattle.atac_top.specs.Understanding.{HasSites, CheckedAs, IsItemised, ItemisedAs, ListedAs, CoveredAs, ReadAs, RunAs, ProbedAs, IsRecordable, RecordAs}
 use Rattle.atac_top.specs.declared.checking.Checking.{Checking}
 use Rattle.atac_top.specs.declared.checking.Checking.TheVariants as checking
 use Rattle.c_sites.specs.declared.numbered.Sites.{Sites}
@@ -62,6 +71,23 @@ list_refused r said s t e same h = subst (λ (x : List ℕ). ListedAs x (listing
 
 pub list_given : (r : Listing) (text : _) (s t : List ℕ) → r ≡ listings.Lists text → s ≡ t → ListedAs s r → IsListing t text.items
 list_given r text s t e same h = subst (λ (x : List ℕ). ListedAs x (listings.Lists text)) same (subst (ListedAs s) e h)
+
+pub probe_refused : (r : Probing) (said : _) (s t : List ℕ) → r ≡ probings.Refuses said → s ≡ t → ProbedAs s r → Uninstrumented t (string_bytes said)
+probe_refused r said s t e same h = subst (λ (x : List ℕ). ProbedAs x (probings.Refuses said)) same (subst (ProbedAs s) e h)
+
+pub probe_given : (r : Probing) (text : _) (s t : List ℕ) → r ≡ probings.Probes text → s ≡ t → ProbedAs s r → IsInstrumented t text.items
+probe_given r text s t e same h = subst (λ (x : List ℕ). ProbedAs x (probings.Probes text)) same (subst (ProbedAs s) e h)
+
+pub record_refused : (r : Recording) (said : _) (s t : List ℕ) → r ≡ recordings.Refuses said → s ≡ t → RecordAs s r → Unrecorded t (string_bytes said)
+record_refused r said s t e same h = subst (λ (x : List ℕ). RecordAs x (recordings.Refuses said)) same (subst (RecordAs s) e h)
+
+pub recordable : (r : Recording) (p : Recordable) (s t : List ℕ) → r ≡ recordings.Records p → s ≡ t → RecordAs s r → IsRecordable t p
+recordable r p s t e same h = subst (λ (x : List ℕ). RecordAs x (recordings.Records p)) same (subst (RecordAs s) e h)
+
+-- the program that was instrumented, behind the digest of the text
+pub probed_same : (text digest : List ℕ) (p q : Program) (s : Sites) (h : HasSites text p s) → digest ≡ sha256 text → source_of q ≡ instrumented (encode_lower digest) (source_of p)
+    → source_of q ≡ with_probes text (program_in h.accepted)
+probed_same text digest p q s h same is = is ∙ ap (λ d. instrumented (encode_lower d) (source_of p)) same ∙ ap (λ (x : Source). instrumented (encode_lower (sha256 text)) x) h.program
 
 pub check_refused : (r : Checking) (said : _) (s t : List ℕ) → r ≡ checking.Refuses said → s ≡ t → CheckedAs s r → Rejection t (string_bytes said)
 check_refused r said s t e same h = subst (λ (x : List ℕ). CheckedAs x (checking.Refuses said)) same (subst (CheckedAs s) e h)
@@ -105,3 +131,11 @@ owned_by P rows found taken whole are same u = by (nat_lt u 65536) refl
     by : (b : Bool) → nat_lt u 65536 ≡ b → owner_in rows u ≡ owner_in_program P u
     by true h = let few : u < 65536 = grind (arith, nat_tests) in ap (λ o. unwrap_or o None) (are u few) ∙ same u
     by false h = let many : 65536 ≤ u = grind (arith, nat_tests) in ap (λ o. unwrap_or o None) (none_past rows u (omega (arith, whole, many))) ∙ sym (program_owns_few P taken u (omega (arith, many)))
+
+-- the rows of a program with probes have the owners of its use probes
+pub probed_owners : (P : Source) (rows : List (Option ℕ)) → length rows ≡ 65536 → AreOwners (owned_in P.unit) rows → (u : ℕ) → owner_in rows u ≡ owner_in_probed P u
+probed_owners P rows whole are u = by (nat_lt u 65536) refl
+  where
+    by : (b : Bool) → nat_lt u 65536 ≡ b → owner_in rows u ≡ cond b (owner_of u (owned_in P.unit)) None
+    by true h = let few : u < 65536 = grind (arith, nat_tests) in ap (λ o. unwrap_or o None) (are u few)
+    by false h = let many : 65536 ≤ u = grind (arith, nat_tests) in ap (λ o. unwrap_or o None) (none_past rows u (omega (arith, whole, many)))

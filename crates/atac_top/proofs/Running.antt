@@ -5,7 +5,6 @@ use Rattle.c_events.specs.declared.events.Event.{Event}
 use Rattle.c_events.specs.Owners.{owner_in}
 use Rattle.atac_facts.specs.declared.fact.Fact.{Fact}
 use Rattle.atac_facts.specs.Sets.{FactSet, holds}
-use Rattle.atac_base.specs.Items.{ItemLists}
 use Rattle.c_meaning.specs.declared.end.RunEnd.{RunEnd}
 use Rattle.c_meaning.specs.Calls.{Source}
 use Rattle.c_meaning.specs.Deeds.{told}
@@ -41,13 +40,18 @@ tests_agree true b f g = sym (f refl)
 tests_agree false true f g = absurd (no_truth (g refl))
 tests_agree false false f g = refl
 
--- a set with the facts of the log has what the test says, by owners that are the program's
+-- a set with the facts of the log has what the test says, by owners that are the same
+pub collected_by : (owner : ℕ → Option ℕ) (owners : List (Option ℕ)) (log : List Event) (s : FactSet) (f : Fact) → ((n : ℕ) → owner_in owners n ≡ owner n)
+    → (Has s f ↔ Covered (owner_in owners) log f) → holds s f ≡ covers owner log f
+unfolding Has
+collected_by owner owners log s f same h =
+    tests_agree (holds s f) (covers (owner_in owners) log f) (λ x. (covered_law (owner_in owners) log f).1 (h.0 x)) (λ x. h.1 ((covered_law (owner_in owners) log f).0 x))
+    ∙ same_owners (owner_in owners) owner same log f
+
+-- where they are the program's
 pub collected : (P : Source) (owners : List (Option ℕ)) (log : List Event) (s : FactSet) (f : Fact) → ((n : ℕ) → owner_in owners n ≡ owner_in_program P n)
     → (Has s f ↔ Covered (owner_in owners) log f) → holds s f ≡ covers (owner_in_program P) log f
-unfolding Has
-collected P owners log s f same h =
-    tests_agree (holds s f) (covers (owner_in owners) log f) (λ x. (covered_law (owner_in owners) log f).1 (h.0 x)) (λ x. h.1 ((covered_law (owner_in owners) log f).0 x))
-    ∙ same_owners (owner_in owners) (owner_in_program P) same log f
+collected P owners log s f same h = collected_by (owner_in_program P) owners log s f same h
 
 or_nothing : (a : Bool) → (a || false) ≡ a
 or_nothing true = refl

@@ -1,10 +1,15 @@
 -- What a command answers, by the files that it finds.
 use Rattle.std.specs.Prelude.{ℕ, cond, leb, List, [], ◌∷◌, ◌++◌, length, Option, None, Some}
 use Rattle.c_meaning.specs.Calls.{Source}
-use Rattle.atac_top.specs.Words.{Command, Check, ListItems, Cover, Run, fetched}
-use Rattle.atac_top.specs.Ends.{End, IsDone, BadWords, NotAccepted, NotHeld, TooLong}
+use Rattle.atac_words.specs.Words.{Command, Check, ListItems, Instrument, Cover, Run, RunInto, Merge, Tell, fetched}
+use Rattle.atac_steps.specs.Ends.{End, IsDone, BadWords, NotAccepted, NotHeld, NoTrace}
+use Rattle.atac_steps.specs.declared.stop.TraceFault.TheVariants.{TooMuch}
+use Rattle.atac_steps.specs.Got.{Got, Gets, Stops, gets}
 use Rattle.atac_base.specs.Items.{ItemLists}
-use Rattle.atac_top.specs.Programs.{Counts, Reading, Refuses, Counted, Listed, Runs, Covers, counts_text, section, report}
+use Rattle.trace_file.specs.Layout.{bytes_of}
+use Rattle.trace_file.specs.declared.trace.Trace.{Trace}
+use Rattle.atac_traces.specs.Files.{Read, Has, Bad, trace_most}
+use Rattle.atac_top.specs.Programs.{Counts, Reading, Refuses, Counted, Listed, Runs, Covers, Probes, Viewed, Merges, Records, counts_text, section, report, view_text, runs_text}
 
 -- An answer: how the call ends, what it puts (whole sections, behind each of which memory may be wanted, and then a rest), and
 -- what it keeps under which name.
@@ -24,15 +29,6 @@ text answer = joined answer.sections ++ answer.rest
 -- A step that is refused ends the call. What was put before it stays.
 abbrev pub refused : List (List ℕ) → End → Answer
 refused sections end = record { end = end; sections = sections; rest = []; kept = None }
-
--- Bytes that are found have to be there, and to be few enough.
-pub data Got : Type 0 where
-  Gets : (bytes : List ℕ) → Got
-  Stops : (end : End) → Got
-
-abbrev pub gets : List ℕ → ℕ → Option (List ℕ) → Got
-gets file most None = Stops (NotHeld file)
-gets file most (Some bytes) = cond (leb (length bytes) most) (Gets bytes) (Stops (TooLong file))
 
 abbrev pub given : List (List ℕ) → Got → (List ℕ → Answer) → Answer
 given sections (Gets bytes) go = go bytes
@@ -70,6 +66,52 @@ covering P items limit (input ∷ inputs) [] done got = refused done BadWords
 covering P items limit (input ∷ inputs) (f ∷ found) done got =
     given done (gets input input_most f) (λ bytes. covering P items limit inputs found (done ++ section input P bytes limit ∷ []) (got ++ bytes ∷ []))
 
+-- A program whose text with probes is wanted, whose traces are told, or that is run into a trace.
+abbrev pub probed_by : List ℕ → Reading → (List ℕ → Answer) → Answer
+probed_by file (Refuses said) go = refused [] (NotAccepted file said)
+probed_by file (Probes text) go = go text
+probed_by file understood go = refused [] BadWords
+
+abbrev pub told_by : List ℕ → Reading → (ItemLists → List Read → Answer) → Answer
+told_by file (Refuses said) go = refused [] (NotAccepted file said)
+told_by file (Viewed P items reads) go = go items reads
+told_by file understood go = refused [] BadWords
+
+abbrev pub recorded_by : List ℕ → Reading → (Source → Option Read → Option Trace → Answer) → Answer
+recorded_by file (Refuses said) go = refused [] (NotAccepted file said)
+recorded_by file (Records P old new) go = go P old new
+recorded_by file understood go = refused [] BadWords
+
+-- What is read in the next trace: the trace, or what is wrong with it.
+abbrev pub next_read : List ℕ → List Read → (Trace → List Read → Answer) → Answer
+next_read name [] go = refused [] BadWords
+next_read name (Bad why ∷ reads) go = refused [] (NoTrace name why)
+next_read name (Has t ∷ reads) go = go t reads
+
+-- The traces of the names that are left, behind those that were read.
+abbrev pub joining : List (List ℕ) → List (Option (List ℕ)) → List Read → List Trace → (List Trace → Answer) → Answer
+joining [] found reads ts go = go ts
+joining (name ∷ names) [] reads ts go = refused [] BadWords
+joining (name ∷ names) (f ∷ found) reads ts go =
+    given [] (gets name trace_most f) (λ bytes. next_read name reads (λ t rest. joining names found rest (ts ++ t ∷ []) go))
+
+-- A trace is kept, and a text put before it, where the trace is no more than a file of one may be.
+abbrev pub keeping : List ℕ → Option Trace → (Trace → List ℕ) → Answer
+keeping name None rest = refused [] BadWords
+keeping name (Some t) rest =
+    cond (leb (length (bytes_of t)) trace_most) (record { end = IsDone; sections = []; rest = rest t; kept = Some (name, bytes_of t) }) (refused [] (NoTrace name TooMuch))
+
+-- An old trace that may be absent.
+abbrev pub old_read : List ℕ → Option Read → Answer → Answer
+old_read name None go = refused [] BadWords
+old_read name (Some (Bad why)) go = refused [] (NoTrace name why)
+old_read name (Some (Has t)) go = go
+
+abbrev pub old_given : List ℕ → Got → Option Read → Answer → Answer
+old_given name (Gets bytes) old go = old_read name old go
+old_given name (Stops (NotHeld file)) old go = go
+old_given name (Stops end) old go = refused [] end
+
 -- The answer to a command, by what is understood of the program's text and by the bytes under each name that it fetches, in their order.
 abbrev pub answer : Command → Reading → List (Option (List ℕ)) → Answer
 answer (Check program) understood (p ∷ []) =
@@ -89,6 +131,22 @@ answer (Run limit program input) understood (p ∷ i ∷ []) =
     run_by program understood (λ P.
     given [] (gets input input_most i) (λ bytes.
     record { end = IsDone; sections = []; rest = section input P bytes limit; kept = None })))
+answer (Instrument program out) understood (p ∷ []) =
+    given [] (gets program 1048576 p) (λ source.
+    probed_by program understood (λ text.
+    record { end = IsDone; sections = []; rest = []; kept = Some (out, text) }))
+answer (RunInto limit program input trace) understood (p ∷ i ∷ t ∷ []) =
+    given [] (gets program 67108864 p) (λ source.
+    recorded_by program understood (λ P old new.
+    given [] (gets input input_most i) (λ bytes.
+    old_given trace (gets trace trace_most t) old (keeping trace new (λ t. section input P bytes limit)))))
+answer (Merge out traces) (Merges reads sum) found =
+    joining traces found reads [] (λ ts. keeping out sum runs_text)
+answer (Tell view program traces) understood (p ∷ found) =
+    given [] (gets program 1048576 p) (λ source.
+    told_by program understood (λ items reads.
+    joining traces found reads [] (λ ts.
+    record { end = IsDone; sections = []; rest = view_text view source items ts; kept = None })))
 answer command understood found = refused [] BadWords
 
 -- The same from the words.

@@ -1,13 +1,7 @@
 pub mod Sections
-pub mod Words
-pub mod Ends
 pub mod Programs
 pub mod Answers
-pub mod Grows
 pub mod Runs
-pub mod Codes
-pub mod Stops
-pub mod Steps
 pub mod Claims
 pub mod Understanding
 pub mod Progress

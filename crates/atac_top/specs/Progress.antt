@@ -1,5 +1,5 @@
 -- One input of a cover, and how far a cover has come.
-use Rattle.std.specs.Prelude.{◌≡◌, ◌⊎◌, ◌||◌, ℕ, ◌+◌, Bool, List, [], ◌∷◌, ◌++◌, length, Option, None, Some, Result, Ok, Err}
+use Rattle.std.specs.Prelude.{◌≡◌, ◌⊎◌, ◌||◌, ℕ, ◌+◌, Bool, List, ◌++◌, length, Option, Result, Ok, Err}
 use Rattle.std.specs.Io.KnownBytes.{append_known}
 use Rattle.c_events.specs.Owners.{owner_in}
 use Rattle.atac_facts.specs.declared.fact.Fact.{Fact}
@@ -14,15 +14,16 @@ use Rattle.probe_rules.specs.Simulation.{Simulates}
 use Rattle.probe_laws.specs.Owners.{owner_in_program}
 use Rattle.cover_core.specs.Stands.{owners_of}
 use Rattle.cover_law.specs.Covers.{covers}
-use Rattle.atac_top.specs.Words.{Command}
-use Rattle.atac_top.specs.Ends.{End}
-use Rattle.atac_top.specs.Programs.{Reading, Covers, section}
-use Rattle.atac_top.specs.Answers.{Answer, gets, Gets, input_most, asked, names, joined}
-use Rattle.atac_top.specs.Runs.{AllAgree, Understands}
-use Rattle.atac_top.specs.Grows.{ShelfGrows, SinkGrows}
-use Rattle.atac_top.specs.Steps.{FetchStops, PutStops}
-use Rattle.atac_top.specs.Stops.{end_of}
-use Rattle.atac_top.specs.declared.stop.Stop.{Stop}
+use Rattle.atac_words.specs.Words.{Command}
+use Rattle.atac_steps.specs.Ends.{End}
+use Rattle.atac_top.specs.Programs.{Reading, section}
+use Rattle.atac_top.specs.Answers.{Answer, input_most, asked, names, joined}
+use Rattle.atac_top.specs.Runs.{Understands}
+use Rattle.atac_steps.specs.Got.{gets, Gets, AllAgree}
+use Rattle.atac_steps.specs.Grows.{ShelfGrows, SinkGrows}
+use Rattle.atac_steps.specs.Steps.{FetchStops, PutStops}
+use Rattle.atac_steps.specs.Stops.{end_of}
+use Rattle.atac_steps.specs.declared.stop.Stop.{Stop}
 use Rattle.atac_top.specs.declared.covering.Covering.{Covering}
 
 -- with what one more run shows

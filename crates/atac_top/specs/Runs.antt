@@ -1,19 +1,21 @@
 -- What a call leaves, by how it ended.
-use Rattle.std.specs.Prelude.{◌≡◌, ◌≢◌, ◌⊎◌, ℕ, ◌-◌, List, [], ◌∷◌, take, slice_get, Option, None, Some, IsTrue, IsSome}
+use Rattle.std.specs.Prelude.{◌≡◌, ◌≢◌, ◌⊎◌, ℕ, ◌-◌, List, [], ◌∷◌, map, take, slice_get, Option, None, Some, IfSome, IsTrue, IsSome}
 use Rattle.std.specs.Io.KnownBytes.{append_known}
-use Rattle.atac_base.specs.Outside.{ShelfState, SinkState, Said, Agrees, Rose, IsFront}
-use Rattle.atac_top.specs.Words.{Command, program_of, program_most}
-use Rattle.atac_top.specs.Ends.{End, IsDone, ReadFailed, WriteFailed, OutOfMemory, status_of, line_of}
-use Rattle.atac_top.specs.Programs.{Reading, IsUnderstood}
-use Rattle.atac_top.specs.Answers.{Answer, asked, names, joined, text, Got, Gets, Stops, gets}
-use Rattle.atac_top.specs.Grows.{ShelfGrows, SinkGrows}
-use Rattle.atac_top.specs.declared.status.Status.{Status}
-
--- Under each name something was found that isn't against what the shelf says of it.
-abbrev pub AllAgree : (List ℕ → Said) → List (List ℕ) → List (Option (List ℕ)) → Type 0
-AllAgree says [] [] = Unit {0}
-AllAgree says (name ∷ names) (found ∷ all) = Agrees (says name) found × AllAgree says names all
-AllAgree says names all = ⊥
+use Rattle.atac_base.specs.Outside.{ShelfState, SinkState, Rose, IsFront}
+use Rattle.atac_words.specs.Words.{Command, Merge, Tell, RunInto, program_of, program_most}
+use Rattle.atac_steps.specs.Ends.{End, IsDone, ReadFailed, WriteFailed, KeepFailed, OutOfMemory, status_of, line_of}
+use Rattle.atac_steps.specs.Got.{Got, Gets, Stops, gets, AllAgree}
+use Rattle.atac_steps.specs.declared.stop.TraceFault.TheVariants.{OtherProgram}
+use Rattle.sha2.specs.Sha256.{sha256}
+use Rattle.c_tree.specs.Programs.{digest_in}
+use Rattle.c_meaning.specs.Calls.{Source}
+use Rattle.trace_file.specs.declared.trace.Trace.{Trace}
+use Rattle.atac_traces.specs.Files.{Read, Has, Bad, IsRead, IsTraceOf, IsFaulty, trace_most}
+use Rattle.atac_traces.specs.Totals.{IsSum}
+use Rattle.atac_top.specs.Programs.{Reading, Viewed, Merges, Records, IsUnderstood, IsRunMore, met_by}
+use Rattle.atac_top.specs.Answers.{Answer, asked, names, joined, text, input_most}
+use Rattle.atac_steps.specs.Grows.{ShelfGrows, SinkGrows}
+use Rattle.atac_steps.specs.declared.status.Status.{Status}
 
 -- The ways in which a call with this answer may end, and what it has put by then. A fault comes only where its count rose.
 abbrev pub Comes : ShelfState → ShelfState → SinkState → SinkState → List (List ℕ) → Answer → End → List ℕ → Type 0
@@ -22,9 +24,13 @@ Comes shelf shelf' out out' files a (ReadFailed file) put =
     Rose shelf.read_faults shelf'.read_faults × ((k : ℕ) × (slice_get files k ≡ Some file) × (put ≡ joined (take (k - 1) a.sections)))
 -- a put failed: some front of the text stands
 Comes shelf shelf' out out' files a WriteFailed put = Rose out.faults out'.faults × IsFront put (text a)
--- memory was wanted: between two sections, by the keep, or by a put
+-- a keep failed: the whole text stands
+Comes shelf shelf' out out' files a (KeepFailed file) put =
+    Rose shelf.keep_faults shelf'.keep_faults × ((bytes : List ℕ) × (a.kept ≡ Some (file, bytes))) × (put ≡ text a)
+-- memory was wanted: by the keep, or, with nothing changed on the shelf, between two sections or by a put
 Comes shelf shelf' out out' files a OutOfMemory put =
-    ((k : ℕ) × (put ≡ joined (take k a.sections))) ⊎ ((IsSome a.kept × (put ≡ text a)) ⊎ (Rose out.wants out'.wants × IsFront put (text a)))
+    ((k : ℕ) × (put ≡ joined (take k a.sections)) × (shelf'.says ≡ shelf.says))
+    ⊎ ((IsSome a.kept × (put ≡ text a)) ⊎ (Rose out.wants out'.wants × IsFront put (text a) × (shelf'.says ≡ shelf.says)))
 -- no such thing came between: the answer itself
 Comes shelf shelf' out out' files a end put = (end ≡ a.end) × (put ≡ text a)
 
@@ -39,6 +45,7 @@ Holds (Some kept) shelf shelf' = IsTrue shelf.tells → shelf'.says kept.0 ≡ S
 
 abbrev pub Keeps : Option (List ℕ × List ℕ) → End → ShelfState → ShelfState → Type 0
 Keeps kept IsDone shelf shelf' = StaysBut kept shelf shelf' × Holds kept shelf shelf'
+Keeps kept (KeepFailed file) shelf shelf' = StaysBut kept shelf shelf'
 Keeps kept OutOfMemory shelf shelf' = StaysBut kept shelf shelf'
 Keeps kept end shelf shelf' = shelf'.says ≡ shelf.says
 
@@ -49,14 +56,72 @@ pub record Tells (err err' : SinkState) (line : List ℕ) : Type 0 where
   pub whole : (put ≡ line) ⊎ (IsFront put line × (Rose err.faults err'.faults ⊎ Rose err.wants err'.wants))
   pub grows : SinkGrows err err'
 
--- What is understood of the program's text, the first file, where its bytes are got.
+-- What is understood of the program's text, where its bytes are got.
 abbrev pub IsOfGot : Command → Got → Reading → Type 0
 IsOfGot command (Gets source) understood = IsUnderstood command source understood
 IsOfGot command (Stops end) understood = Unit {0}
 
+-- What is read in a trace of the program, where its bytes are got.
+abbrev pub IsReadIn : List ℕ → Got → Read → Type 0
+IsReadIn digest (Gets bytes) r = IsRead digest bytes r
+IsReadIn digest (Stops end) r = Unit {0}
+
+-- What is read in each, as far as they were read.
+abbrev pub AreRead : List ℕ → List (List ℕ) → List (Option (List ℕ)) → List Read → Type 0
+AreRead digest names found [] = Unit {0}
+AreRead digest (name ∷ names) (f ∷ found) (r ∷ reads) = IsReadIn digest (gets name trace_most f) r × AreRead digest names found reads
+AreRead digest names found reads = ⊥
+
+-- The traces of a program that is told of have the digest of its text.
+abbrev pub AreToldOf : Got → List (List ℕ) → List (Option (List ℕ)) → List Read → Type 0
+AreToldOf (Gets source) names found reads = AreRead (sha256 source) names found reads
+AreToldOf (Stops end) names found reads = Unit {0}
+
+-- The first of traces that are merged is of its own program.
+abbrev pub IsOwn : List Read → Type 0
+IsOwn (Bad OtherProgram ∷ reads) = ⊥
+IsOwn reads = Unit {0}
+
+-- They have the digest of the first one, and the sum is theirs.
+pub record AreMerged (names : List (List ℕ)) (found : List (Option (List ℕ))) (reads : List Read) (sum : Option Trace) : Type 0 where
+  pub program : List ℕ
+  pub are : AreRead program names found reads
+  pub first : IsOwn reads
+  pub sums : IfSome sum (λ s. (ts : List Trace) × (reads ≡ map Has ts) × IsSum program ts s)
+
+-- A run into a trace: an old trace has the digest in the program line; where none is held there was no run.
+abbrev pub OldIs : List ℕ → Got → Option Read → Trace → Type 0
+OldIs digest (Gets bytes) (Some (Has t)) old = IsTraceOf digest bytes t × (old ≡ t)
+OldIs digest (Gets bytes) (Some (Bad why)) old = IsFaulty digest bytes why
+OldIs digest (Gets bytes) None old = Unit {0}
+OldIs digest (Stops end) read old = old ≡ record { digest = digest; runs = 0; old_runs = 0; tally = [] }
+
+-- The new one has one run more, in which the facts of this run were met.
+pub record IsRunInto (limit : ℕ) (P : Source) (i t : Got) (read : Option Read) (new : Option Trace) : Type 0 where
+  pub digest : List ℕ
+  pub line : digest_in P.unit.line ≡ Some digest
+  pub old : Trace
+  pub is : OldIs digest t read old
+  pub more : IfSome new (λ n. (bytes : List ℕ) × (i ≡ Gets bytes) × IsRunMore old n (met_by P limit bytes))
+
+-- What a command understands of its files.
+abbrev pub OfProgram : Command → List (Option (List ℕ)) → Reading → Type 0
+OfProgram command [] understood = Unit {0}
+OfProgram command (p ∷ found) understood = IsOfGot command (gets (program_of command) (program_most command) p) understood
+
+abbrev pub OfTraces : Command → List (Option (List ℕ)) → Reading → Type 0
+OfTraces (Tell view program traces) (p ∷ found) (Viewed P items reads) = AreToldOf (gets program 1048576 p) traces found reads
+OfTraces (RunInto limit program input trace) (p ∷ i ∷ t ∷ []) (Records P old new) = IsRunInto limit P (gets input input_most i) (gets trace trace_most t) old new
+OfTraces command found understood = Unit {0}
+
+abbrev pub UnderstandsAll : Command → List (Option (List ℕ)) → Reading → Type 0
+UnderstandsAll (Merge out traces) found (Merges reads sum) = AreMerged traces found reads sum
+UnderstandsAll (Merge out traces) found understood = ⊥
+UnderstandsAll command found understood = OfProgram command found understood × OfTraces command found understood
+
 abbrev pub Understands : Option Command → List (Option (List ℕ)) → Reading → Type 0
-Understands (Some command) (p ∷ found) understood = IsOfGot command (gets (program_of command) (program_most command) p) understood
-Understands asked_for found understood = Unit {0}
+Understands None found understood = Unit {0}
+Understands (Some command) found understood = UnderstandsAll command found understood
 
 -- The answer, by what is understood, and what came of it.
 pub record Answers (asked_for : Option Command) (shelf shelf' : ShelfState) (out out' : SinkState) (found : List (Option (List ℕ))) (end : End) (put : List ℕ) : Type 0 where

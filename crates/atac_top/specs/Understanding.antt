@@ -1,5 +1,7 @@
 -- What the code holds of a program that it understands.
-use Rattle.std.specs.Prelude.{◌≡◌, ℕ, List, string_bytes}
+use Rattle.std.specs.Prelude.{◌≡◌, ℕ, List, [], Option, None, Some, string_bytes}
+use Rattle.trace_file.specs.declared.trace.Trace.{Trace}
+use Rattle.c_tree.specs.Programs.{digest_in}
 use Rattle.c_tree.specs.declared.program.Program as whole
 use Rattle.c_meaning.specs.Sources.{source_of}
 use Rattle.c_walk.specs.Units.{items_of}
@@ -11,13 +13,18 @@ use Rattle.probe_rules.specs.Simulation.{Simulates}
 use Rattle.c_events.specs.Owners.{owner_in}
 use Rattle.probe_laws.specs.Owners.{owner_in_program}
 use Rattle.atac_base.specs.Items.{ItemLists}
-use Rattle.atac_top.specs.Programs.{IsAccepted, HasItems, IsListing, IsProbed, Rejection, Unlisted, Unread, program_in, lists_in}
+use Rattle.atac_top.specs.Programs.{IsAccepted, HasItems, IsListing, IsProbed, IsInstrumented, Uninstrumented, Rejection, Unlisted, Unread, Unrecorded, owner_in_probed, program_in, lists_in}
 use Rattle.atac_top.specs.declared.checking.Checking.{Checking}
 use Rattle.atac_top.specs.declared.checking.Checking.TheVariants as checking
 use Rattle.atac_top.specs.declared.listing.Itemising.{Itemising}
 use Rattle.atac_top.specs.declared.listing.Itemising.TheVariants as itemising
 use Rattle.atac_top.specs.declared.listing.Listing.{Listing}
 use Rattle.atac_top.specs.declared.listing.Listing.TheVariants as listing
+use Rattle.atac_top.specs.declared.probing.Probing.{Probing}
+use Rattle.atac_top.specs.declared.probing.Probing.TheVariants as probing
+use Rattle.atac_top.specs.declared.recording.Recordable.{Recordable}
+use Rattle.atac_top.specs.declared.recording.Recording.{Recording}
+use Rattle.atac_top.specs.declared.recording.Recording.TheVariants as recording
 use Rattle.atac_top.specs.declared.program.Understood.{Understood}
 use Rattle.atac_top.specs.declared.program.Reading.{Reading}
 use Rattle.atac_top.specs.declared.program.Reading.TheVariants as reading
@@ -68,3 +75,27 @@ ReadAs source (reading.Covers understood) = CoveredAs source understood
 abbrev pub RunAs : List ℕ → Runnable → Type 0
 RunAs source (runnable.Refuses said) = Unread source (string_bytes said)
 RunAs source (runnable.Runs p) = IsProbed source (source_of p)
+
+-- and of one whose text with probes is wanted
+abbrev pub ProbedAs : List ℕ → Probing → Type 0
+ProbedAs source (probing.Refuses said) = Uninstrumented source (string_bytes said)
+ProbedAs source (probing.Probes text) = IsInstrumented source text.items
+
+-- the owners are those of the program's use probes
+abbrev pub HasOwners : Recordable → Type 0
+HasOwners r = (u : ℕ) → owner_in r.owners u ≡ owner_in_probed (source_of r.program) u
+
+-- and of one that is to be run into a trace
+pub record IsRecordable (source : List ℕ) (r : Recordable) : Type 0 where
+  pub read : IsProbed source (source_of r.program)
+  pub line : digest_in (source_of r.program).unit.line ≡ Some r.digest
+  pub owners : HasOwners r
+
+abbrev pub RecordAs : List ℕ → Recording → Type 0
+RecordAs source (recording.Refuses said) = Unrecorded source (string_bytes said)
+RecordAs source (recording.Records r) = IsRecordable source r
+
+-- the trace that a run is added to: the old one, or one of no run
+abbrev pub begun : Option Trace → List ℕ → Trace
+begun None digest = record { digest = digest; runs = 0; old_runs = 0; tally = [] }
+begun (Some old) digest = old

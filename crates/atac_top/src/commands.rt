@@ -1,18 +1,21 @@
 //! What each command fetches, does and puts.
 
 ghost use Rattle.std.specs.Prelude.{◌≤◌, Some};
-ghost use Rattle.atac_top.specs.Words.{Check, ListItems, Run};
-ghost use Rattle.atac_top.specs.Stops.{command_of, ended, IsFew};
+ghost use Rattle.atac_words.specs.Words.{Check, ListItems, Instrument, Run};
+ghost use Rattle.atac_words.specs.Stops.{command_of, IsFew};
+ghost use Rattle.atac_steps.specs.Stops.{ended};
 ghost use Rattle.atac_top.specs.Runs.{Goes};
 
 use crate::checking::{self, Checking, counts_of};
 use crate::covering::cover;
 use crate::listing::{self, Listing};
-use crate::outside::{fetch, put};
+use crate::probing::{Probing, probe};
 use crate::program::{Runnable, read_to_run, section_of};
-use crate::stop::Stop;
-use crate::words::Asked;
+use crate::recording::{merge, run_into};
+use crate::telling::tell;
 use atac_base::outside::{Shelf, Sink};
+use atac_steps::{Stop, fetch, keep, put};
+use atac_words::Asked;
 use std::alloc::Global;
 
 /// The most bytes of a program.
@@ -61,6 +64,25 @@ fn list<'a, S: Shelf, W: Sink>(
     put(out, text.as_slice())
 }
 
+// Keeps the text of the program with its probes.
+fn instrument<'a, S: Shelf, W: Sink>(
+    alloc: Global,
+    program: &'a str,
+    kept: &'a str,
+    shelf: &mut S,
+    out: &mut W,
+) -> Result<(), Stop<'a>>
+    ensures { Goes (Some (Instrument program.now kept.now)) (S.state shelf.old) (S.state shelf.new)
+        (W.state out.old) (W.state out.new) (ended result) }
+{
+    let source = fetch(alloc, shelf, program, PROGRAM_MOST)?;
+    let text = match probe(alloc, source.as_slice())? {
+        Probing::Refuses(said) => return Err(Stop::NotAccepted(program, said)),
+        Probing::Probes(text) => text,
+    };
+    keep(shelf, kept, text.as_slice())
+}
+
 // Runs the program, plain or with probes, on the input and puts the section.
 fn run<'a, S: Shelf, W: Sink>(
     alloc: Global,
@@ -100,5 +122,11 @@ pub fn carry_out<'a, S: Shelf, W: Sink>(
         Asked::List(program) => list(alloc, program, shelf, out),
         Asked::Cover(limit, program, inputs) => cover(alloc, limit, program, inputs, shelf, out),
         Asked::Run(limit, program, input) => run(alloc, limit, program, input, shelf, out),
+        Asked::Instrument(program, kept) => instrument(alloc, program, kept, shelf, out),
+        Asked::RunInto(limit, program, input, trace) => {
+            run_into(alloc, limit, program, input, trace, shelf, out)
+        }
+        Asked::Merge(kept, traces) => merge(alloc, kept, traces, shelf, out),
+        Asked::Tell(view, program, traces) => tell(alloc, view, program, traces, shelf, out),
     }
 }

@@ -1,14 +1,15 @@
-//! The top call: reads the words, fetches the files, lists or runs the program, and puts the texts.
+//! The top call: reads the words, fetches the files, does what is asked for, and puts and keeps what comes of it.
 #![tactic(auto)]
 
 mod checking;
 mod commands;
 mod covering;
 mod listing;
-mod outside;
+mod probing;
 mod program;
+mod recording;
 mod sections;
-pub mod status;
-mod stop;
+mod telling;
 pub mod top;
-mod words;
+
+pub use atac_steps::Status;

@@ -3,9 +3,9 @@
 ghost use Rattle.std.specs.Prelude.{◌≡◌, ◌⊎◌, ◌↔◌, ◌++◌, ℕ, List, Option, IsTrue, map, string_bytes, Some, None, IfSome};
 ghost use Rattle.atac_base.specs.Outside.{Rose};
 ghost use Rattle.atac_top.specs.Programs.{IsAccepted, program_in};
-ghost use Rattle.atac_top.specs.Words.{reads};
-ghost use Rattle.atac_top.specs.Ends.{line_of, file_of, said_of};
-ghost use Rattle.atac_top.specs.Stops.{end_of};
+ghost use Rattle.atac_words.specs.Words.{reads};
+ghost use Rattle.atac_steps.specs.Ends.{line_of, file_of, said_of};
+ghost use Rattle.atac_steps.specs.Stops.{end_of};
 ghost use Rattle.atac_top.specs.Runs.{Runs, Tells};
 ghost use Rattle.atac_top.specs.Claims.{Supposes, Shows, NoFault};
 ghost use Rattle.c_events.specs.declared.events.Event.{Event};
@@ -14,51 +14,16 @@ ghost use Rattle.cover_parts.specs.Covered.{Covered};
 ghost use Rattle.cover_law.specs.Covers.{covers};
 
 use crate::commands::carry_out;
-use crate::status::Status;
-use crate::stop::Stop;
-use crate::words::read_words;
 use atac_base::outside::{PutErr, Shelf, Sink};
+use atac_steps::{Status, Stop, fetch, put};
+use atac_words::read_words;
 use std::alloc::Global;
-
-/// What a stop says, behind the name of its file.
-fn said_of_stop<'a>(stop: &'a Stop<'_>) -> &'a [u8]
-    ensures { result.now ≡ said_of (end_of stop.now) }
-{
-    match stop {
-        Stop::NotAccepted(_, said) => said.as_bytes(),
-        Stop::NotHeld(_) => b": absent",
-        Stop::TooLong(_) => b": too long",
-        Stop::ReadFailed(_) => b": read fault",
-        Stop::WriteFailed => b"write fault",
-        Stop::NoMemory => b"no memory",
-    }
-}
-
-/// The file that a stop speaks of, or nothing.
-fn file_of_stop<'a>(stop: &Stop<'a>) -> &'a [u8]
-    ensures { result.now ≡ file_of (end_of stop.now) }
-{
-    match stop {
-        Stop::NotAccepted(file, _) => file.as_bytes(),
-        Stop::NotHeld(file) => file.as_bytes(),
-        Stop::TooLong(file) => file.as_bytes(),
-        Stop::ReadFailed(file) => file.as_bytes(),
-        Stop::WriteFailed => b"",
-        Stop::NoMemory => b"",
-    }
-}
 
 /// Puts the line of a stop. It takes no memory, so it puts the line piece by piece.
 fn tell<E: Sink>(err: &mut E, stop: &Stop<'_>)
     ensures { Tells (E.state err.old) (E.state err.new) (line_of (end_of stop.now)) }
 {
-    let _ = put_four(
-        err,
-        b"atac: ",
-        file_of_stop(stop),
-        said_of_stop(stop),
-        b"\n",
-    );
+    let _ = put_four(err, b"atac: ", stop.file(), stop.said(), b"\n");
 }
 
 /// Puts four pieces, and ends at the first that fails.
@@ -79,8 +44,15 @@ fn put_four<E: Sink>(err: &mut E, a: &[u8], b: &[u8], c: &[u8], d: &[u8]) -> Res
 /// program; fetches INPUT, at most 16,777,216 bytes; runs P on it within N turns, from 1 to 100,000,000, or 1,000,000; and puts
 /// the section of this run to `out`. `cover [-t N] P INPUT1 .. INPUTn`, with 1 to 1,000 inputs, refuses P as `list` does,
 /// does the same on each input in turn, and puts the report of what these runs cover behind the sections; where an input is
-/// refused, the sections before it stand. All other words are no command. An operand doesn't begin with `-`; an empty one is a
-/// name like another.
+/// refused, the sections before it stand.
+///
+/// `instrument P OUT` refuses P as `check` does, or where its text with probes passes the limits, and keeps that text under OUT.
+/// `run [-t N] P INPUT TRACE` does what `run` does, for a P with a program line, and keeps under TRACE what it held, a trace of
+/// this program or nothing, with this run. `merge OUT TRACE1 .. TRACEn` puts the number of runs of the traces, which are of one
+/// program, and keeps their sum under OUT. `report`, `show` and `hits P TRACE1 .. TRACEn` put what is told of P's items by the
+/// sum of traces of P. There are 1 to 1,000 traces, each at most 67,108,864 bytes. What is kept is kept as the last step.
+///
+/// All other words are no command. An operand doesn't begin with `-`; an empty one is a name like another.
 ///
 /// `NoMemory` may come in place of each status but `Usage`. A put to `err` that fails leaves the status as it is.
 #[tactic(auto, using(cover_law::proofs::Covering::covered_law))]
@@ -101,12 +73,14 @@ pub fn atac<S: Shelf, W: Sink, E: Sink>(
 
     // A fault is answered only where its count rose in this call.
     ensures read_fault { result ≡ Status.ReadFault → Rose (S.state shelf.old).read_faults (S.state shelf.new).read_faults }
+    ensures keep_fault { result ≡ Status.KeepFault → Rose (S.state shelf.old).keep_faults (S.state shelf.new).keep_faults }
     ensures write_fault { result ≡ Status.WriteFault → Rose (W.state out.old).faults (W.state out.new).faults }
 
-    // When the call is done, the sink gained the line of the program's counts; or the list of its items, each pair exactly
-    // where some walk of a function has it; or the section of its own run, as the meaning of the language has it; and for `cover` the report of the blocks that this run enters.
+    // When the call is done, the sink gained and the shelf holds what the command says: the line of the program's counts; the list
+    // of its items, each pair exactly where some walk of a function has it; the sections of its own runs, as the meaning of the
+    // language has them, and the report of what these show; what is told of traces; the text with probes; the new trace.
     ensures headline { result ≡ Status.Done → IfSome (reads (map string_bytes words.now.items)) (λ command.
-        Shows command (S.state shelf.old).says (W.state out.old) (W.state out.new)) }
+        Shows command (S.state shelf.old) (S.state shelf.new) (W.state out.old) (W.state out.new)) }
 
     // A text is one program at most.
     ensures one_program { (source : List ℕ) (a b : IsAccepted source) → program_in b ≡ program_in a }

@@ -1,10 +1,11 @@
 -- What is asked of the facts of a tally and of a set, and what the types of a row say of its numbers.
 use Rattle.std.specs.Prelude.{◌≡◌, ◌<◌, ◌^◌, true, IsTrue, List}
+use Rattle.std.specs.List.{All}
 use Rattle.atac_facts.specs.declared.fact.Fact.{Fact}
 use Rattle.atac_facts.specs.declared.tally.Counted.{Counted}
 use Rattle.atac_facts.specs.Facts.{fits}
 use Rattle.atac_facts.specs.Sets.{FactSet, holds}
-use Rattle.atac_facts.specs.Tallies.{is_met}
+use Rattle.atac_facts.specs.Tallies.{AscendsFrom, is_met}
 use Rattle.trace_file.specs.Sound.{SoundFact}
 
 -- Every fact that was met has sound numbers.
@@ -18,3 +19,8 @@ HoldsSound set = (fact : Fact) → IsTrue (holds set fact) → SoundFact fact
 pub record RowFits (row : Counted) : Type 0 where
   pub fact : fits row.fact ≡ true
   pub count : row.count < 2 ^ 32
+
+-- What rows of a tally are: strictly ascending, each counted, of numbers that fit.
+pub record AreRows (rows : List Counted) : Type 0 where
+  pub ascend : AscendsFrom 0 rows
+  pub fit : All RowFits rows

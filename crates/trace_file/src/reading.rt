@@ -252,7 +252,9 @@ fn read(alloc: Global, bytes: &[u8]) -> Result<Trace, DecodeRefusal>
 
 /// The trace that the bytes spell, in either version.
 pub fn decode(alloc: Global, bytes: &[u8]) -> Result<Trace, DecodeRefusal>
-    // What is read is a sound trace, and the bytes are its spelling.
+    // What is read stands in the bytes.
+    ensures accepted { IfOk result (Accepts bytes.now) }
+    // It is a sound trace, and the bytes are its spelling.
     ensures found { IfOk result (λ t. IsSound t × Spells bytes.now t) }
     // The spelling of a sound trace is read as that trace, unless memory runs out.
     ensures only { (t : Trace) → IsTyped t → IsSound t → Spells bytes.now t → MatchResult result (λ u. u ≡ t) (λ e. e ≡ NoMemory) }

@@ -8,7 +8,7 @@ ghost use Rattle.atac_facts.specs.Sets.{holds};
 ghost use Rattle.atac_facts.specs.Tallies.{count_of};
 ghost use Rattle.atac_facts.specs.Sums.{most};
 ghost use Rattle.trace_file.specs.Sound.{Orderly, IsSound};
-ghost use Rattle.trace_file.specs.Sums.{AreSound, HoldsSound, RowFits};
+ghost use Rattle.trace_file.specs.Sums.{AreSound, HoldsSound, RowFits, AreRows};
 
 use crate::trace::Trace;
 use atac_facts::facts::Facts;
@@ -31,6 +31,13 @@ fn rows_fit(rows: &[Counted])
     for row in rows {
         row_fits(*row);
     }
+}
+
+// So the rows of a tally are what they should be.
+fn are_rows(tally: &Tally)
+    ensures { AreRows tally.now }
+{
+    rows_fit(tally.rows());
 }
 
 // The law of a tally: where all its facts are sound, so are its rows, in their order.
@@ -91,10 +98,12 @@ pub fn add_run(alloc: Global, into: &mut Trace, facts: &Facts) -> Result<(), NoM
     ensures old_runs { into.new.old_runs ≡ into.old.old_runs }
     ensures counts { OnOk result ((fact : Fact) → fits fact ≡ true → count_of into.new.tally fact ≡ min (count_of into.old.tally fact + (if holds facts.now fact then 1 else 0)) most) }
     ensures sound { OnOk result (IsSound into.old → HoldsSound facts.now → IsSound into.new) }
+    ensures rows { OnOk result (AreRows into.new.tally) }
     ensures err { OnErr result (into.new ≡ into.old) }
 {
     let run = facts_tally(alloc, facts)?;
     add_tally(&mut into.tally, &run)?;
+    are_rows(&into.tally);
     into.runs = into.runs.saturating_add(1);
     Ok(())
 }

@@ -4,7 +4,6 @@ ghost use Rattle.std.specs.Prelude.{◌≡◌, ◌≤◌, ◌<◌, ◌+◌, ◌^
 ghost use Rattle.std.specs.List.{sum_by};
 ghost use Rattle.byteorder.specs.Endian.{big_bytes};
 ghost use Rattle.trace_file.specs.Layout.{kind_of, size, record_of, rows_in, list_of, lists_of, opening_of, bytes_of, Spells};
-ghost use Rattle.trace_file.specs.Sound.{IsSound};
 ghost use Rattle.trace_file.specs.declared.refusal.EncodeRefusal.TheVariants.{TooMuch};
 
 use crate::kind::Kind;
@@ -134,9 +133,9 @@ fn put_all(alloc: Global, trace: &Trace) -> Result<Vec<u8>, AllocError>
     Ok(out)
 }
 
-/// The one spelling of the trace in version 2, where it has at most so many bytes.
+/// The one spelling of the trace in version 2, where it has at most so many bytes. Where the trace is sound, it is decoded as the
+/// trace.
 pub fn encode(alloc: Global, trace: &Trace, most: u64) -> Result<Vec<u8>, EncodeRefusal>
-    requires sound { IsSound trace.now }
     requires most { most ≤ 67108864 }
     ensures bytes { IfOk result (λ v. v.items ≡ bytes_of trace.now) }
     ensures spells { IfOk result (λ v. Spells v.items trace.now) }

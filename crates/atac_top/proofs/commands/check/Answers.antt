@@ -1,13 +1,13 @@
 -- Each way out of `check`.
-use Rattle.std.proofs.Common.{refl, ap, sym, ◌∙◌, Some, ◌∷◌, [], ◌++◌}
+use Rattle.std.proofs.Common.{refl, ap, sym, ◌∙◌, Some, ◌∷◌, []}
 use Rattle.std.proofs.lemmas.Result.{err_from_is_err_and}
-use Rattle.atac_top.specs.Words.{Check}
+use Rattle.atac_words.specs.Words.{Check}
 use Rattle.atac_top.specs.Programs.{Refuses, Counted, counts_of, counts_in, counts_text}
 use Rattle.atac_top.specs.Answers.{Answer, text}
 use Rattle.atac_top.proofs.Asked.{check_stopped, checked, check_refused, check_done}
 use Rattle.atac_top.proofs.Exits.{wants_at_once, program_stops, not_accepted, put_ends, known_nothing}
 use Rattle.atac_top.proofs.Reading as reading
-use Rattle.atac_top.proofs.Growing.{sink_stays}
+use Rattle.atac_steps.proofs.Growing.{sink_stays}
 use Rattle.atac_top.proofs.commands.check.Goals as goal
 
 pub returns-in_err-source : goal.returns-in_err-source

@@ -1,13 +1,13 @@
 -- Each way out of `list`.
-use Rattle.std.proofs.Common.{refl, ap, sym, ◌∙◌, Some, ◌∷◌, [], ◌++◌}
+use Rattle.std.proofs.Common.{refl, ap, sym, ◌∙◌, Some, ◌∷◌, []}
 use Rattle.std.proofs.lemmas.Result.{err_from_is_err_and}
-use Rattle.atac_top.specs.Words.{ListItems}
+use Rattle.atac_words.specs.Words.{ListItems}
 use Rattle.atac_top.specs.Programs.{Refuses, Listed}
 use Rattle.atac_top.specs.Answers.{Answer, text}
 use Rattle.atac_top.proofs.Asked.{list_stopped, listed, list_refused, list_done}
 use Rattle.atac_top.proofs.Exits.{wants_at_once, program_stops, not_accepted, put_ends, known_nothing}
 use Rattle.atac_top.proofs.Reading as reading
-use Rattle.atac_top.proofs.Growing.{sink_stays}
+use Rattle.atac_steps.proofs.Growing.{sink_stays}
 use Rattle.atac_top.proofs.commands.list.Goals as goal
 
 pub returns-in_err-source : goal.returns-in_err-source

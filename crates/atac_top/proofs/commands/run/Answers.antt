@@ -1,16 +1,16 @@
 -- Each way out of `run`.
-use Rattle.std.proofs.Common.{refl, ap, sym, ◌∙◌, subst, Some, None, ◌∷◌, [], ◌++◌, List, ℕ}
+use Rattle.std.proofs.Common.{refl, ap, sym, ◌∙◌, subst, Some, ◌∷◌, [], List, ℕ}
 use Rattle.std.proofs.lemmas.Result.{err_from_is_err_and}
 use Rattle.atac_base.specs.Outside.{Said, Agrees}
-use Rattle.atac_top.specs.Words.{Run}
+use Rattle.atac_words.specs.Words.{Run}
 use Rattle.atac_top.specs.Programs.{Refuses, Runs, section}
 use Rattle.atac_top.specs.Answers.{Answer, text}
 use Rattle.c_meaning.specs.Sources.{source_of}
 use Rattle.atac_top.proofs.Asked.{run_stopped_first, run_understands, run_refused, run_stopped, run_done, run_text}
-use Rattle.atac_top.proofs.Exits.{wants_memory, wants_at_once, program_stops, not_accepted, fetch_stops, put_breaks, put_ends, known_nothing}
+use Rattle.atac_top.proofs.Exits.{wants_memory, wants_at_once, program_stops, not_accepted, fetch_stops, put_ends, known_nothing}
 use Rattle.atac_top.proofs.Reading.{unread, runnable}
-use Rattle.atac_top.proofs.Found.{guess, guess_agrees}
-use Rattle.atac_top.proofs.Growing.{sink_stays, shelf_goes_on, sink_goes_on}
+use Rattle.atac_steps.proofs.Found.{guess, guess_agrees}
+use Rattle.atac_steps.proofs.Growing.{sink_stays, shelf_goes_on}
 use Rattle.atac_top.proofs.commands.run.Goals as goal
 
 pub returns-in_err-source : goal.returns-in_err-source

@@ -1,15 +1,15 @@
 -- Each way out of `cover`, and the step of its loop.
-use Rattle.std.proofs.Common.{◌≡◌, refl, ap, sym, ◌∙◌, Some, ◌∷◌, [], ◌++◌, List, ℕ, map}
+use Rattle.std.proofs.Common.{refl, ◌∙◌, Some, ◌∷◌, [], ◌++◌, map}
 use Rattle.std.specs.Prelude.{string_bytes}
 use Rattle.std.proofs.lemmas.Result.{err_from_is_err_and}
-use Rattle.atac_top.specs.Words.{Cover}
-use Rattle.atac_top.specs.Programs.{Refuses, Covers, program_in, section, shown}
+use Rattle.atac_words.specs.Words.{Cover}
+use Rattle.atac_top.specs.Programs.{Refuses, program_in, section, shown}
 use Rattle.atac_top.proofs.Asked.{cover_stopped_first, cover_understands, cover_refused}
 use Rattle.atac_top.proofs.Exits.{wants_at_once, program_stops, not_accepted, known_nothing}
 use Rattle.atac_top.proofs.Reading.{read_refused, read_given}
 use Rattle.atac_top.proofs.Course.{guesses, guesses_agree, came_first, came_on, came_stops, came_by, came_wants, came_ends, left_cons, left_none}
 use Rattle.atac_top.proofs.Inputs.{stands_on}
-use Rattle.atac_top.proofs.Growing.{sink_stays}
+use Rattle.atac_steps.proofs.Growing.{sink_stays}
 use Rattle.atac_top.proofs.covering.cover.Goals as goal
 
 pub returns-in_err-source : goal.returns-in_err-source

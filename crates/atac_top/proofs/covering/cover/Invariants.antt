@@ -1,7 +1,7 @@
-use Rattle.std.proofs.Common.{◌≡◌, ℕ, List, map, drop, Some}
+use Rattle.std.proofs.Common.{ℕ, List, map, drop, Some}
 use Rattle.std.specs.Prelude.{string_bytes}
 use Rattle.c_meaning.specs.Calls.{Source}
-use Rattle.atac_top.specs.Words.{Cover}
+use Rattle.atac_words.specs.Words.{Cover}
 use Rattle.atac_base.specs.Items.{ItemLists}
 use Rattle.atac_top.specs.Programs.{Covers, shown}
 use Rattle.atac_top.specs.Answers.{covering}

@@ -1,5 +1,5 @@
 -- A text that is not accepted; and a program that is.
-use Rattle.std.proofs.Common.{◌≡◌, ℕ, refl, ap, ◌∙◌, subst}
+use Rattle.std.proofs.Common.{◌≡◌, ℕ, refl, subst}
 use Rattle.c_events.specs.Owners.{owner_in}
 use Rattle.c_syntax.specs.View.{unit_shape}
 use Rattle.c_sites_probes.specs.Owned.{owned_in}

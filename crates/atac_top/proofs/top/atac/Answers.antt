@@ -1,11 +1,13 @@
 -- The whole runs at the three ends, and completeness from the run.
 use Rattle.std.proofs.Common.{refl, inl, inr, []}
-use Rattle.atac_top.specs.Ends.{IsDone, BadWords}
+use Rattle.atac_steps.specs.Ends.{IsDone, BadWords}
 use Rattle.atac_top.specs.Programs.{Refuses}
-use Rattle.atac_top.specs.Stops.{command_of, end_of}
-use Rattle.atac_top.proofs.Claims.{complete_for, shows, same_source}
+use Rattle.atac_words.specs.Stops.{command_of}
+use Rattle.atac_steps.specs.Stops.{end_of}
+use Rattle.atac_top.proofs.Same.{same_source}
+use Rattle.atac_top.proofs.Claims.{complete_for, shows}
 use Rattle.atac_top.proofs.Exits.{known_nothing}
-use Rattle.atac_top.proofs.Growing.{shelf_stays, sink_stays}
+use Rattle.atac_steps.proofs.Growing.{shelf_stays, sink_stays}
 use Rattle.atac_top.proofs.top.atac.Goals as goal
 
 pub returns-in_default-clause-runs : goal.returns-in_default-clause-runs
@@ -29,7 +31,7 @@ returns-in-Ok-clause-runs g c =
 pub returns-in-Err-clause-complete : goal.returns-in-Err-clause-complete
 returns-in-Err-clause-complete g c =
     rw (← c.in-Some.ensures.command) (complete_for (command_of c.in-Some.asked) _ _ _ _ (g.E.Sink.state c.args.err.now) (g.E.Sink.state c.tell.new.err) _
-    (record { end = end_of c.in-Err.stop; status_is = c.status.ensures.status; goes = c.in-Err.ensures; tells = c.tell.ensures }))
+    (record { end = end_of c.in-Err.stop; status_is = c.status.ensures.status; goes = c.in-Err.ensures; tells = c.tell.ensures }) c.status.ensures.not_usage)
 
 pub returns-in-Ok-clause-headline : goal.returns-in-Ok-clause-headline
 returns-in-Ok-clause-headline g c = λ is.

@@ -1,7 +1,7 @@
 -- The pieces that were put whole, and a front of the one that failed.
 use Rattle.std.proofs.Common.{refl, sym, ◌++◌, append_assoc}
-use Rattle.atac_top.specs.Grows.{SinkGrows}
-use Rattle.atac_top.proofs.Growing.{sink_goes_on}
+use Rattle.atac_steps.specs.Grows.{SinkGrows}
+use Rattle.atac_steps.proofs.Growing.{sink_goes_on}
 use Rattle.atac_top.proofs.Lines.{tells_front, tells_last, after_two}
 use Rattle.atac_top.proofs.top.put_four.Goals as goal
 

@@ -1,0 +1,4 @@
+pub mod Files
+pub mod Totals
+pub mod Joins
+pub mod Keeping
