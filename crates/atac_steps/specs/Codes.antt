@@ -1,7 +1,7 @@
 -- The exit codes.
 use Rattle.std.specs.Prelude.{ℕ}
 use Rattle.atac_steps.specs.declared.status.Status.{Status}
-use Rattle.atac_steps.specs.declared.status.Status.TheVariants.{Done, Usage, Refused, Absent, Long, BadTrace, ReadFault, WriteFault, KeepFault, NoMemory}
+use Rattle.atac_steps.specs.declared.status.Status.TheVariants.{Done, Usage, Refused, Absent, Long, BadTrace, ReadFault, WriteFault, KeepFault, NoMemory, NoWatcher}
 
 abbrev pub code_of : Status → ℕ
 code_of Done = 0
@@ -14,3 +14,4 @@ code_of ReadFault = 7
 code_of WriteFault = 8
 code_of KeepFault = 9
 code_of NoMemory = 10
+code_of NoWatcher = 11

@@ -3,7 +3,7 @@ use Rattle.std.specs.Prelude.{ℕ, List, [], ◌∷◌, ◌++◌, codes}
 use Rattle.atac_steps.specs.declared.stop.TraceFault.{TraceFault}
 use Rattle.atac_steps.specs.declared.stop.TraceFault.TheVariants as fault
 use Rattle.atac_steps.specs.declared.status.Status.{Status}
-use Rattle.atac_steps.specs.declared.status.Status.TheVariants.{Done, Usage, Refused, Absent, Long, BadTrace, ReadFault, WriteFault, KeepFault, NoMemory}
+use Rattle.atac_steps.specs.declared.status.Status.TheVariants.{Done, Usage, Refused, Absent, Long, BadTrace, ReadFault, WriteFault, KeepFault, NoMemory, NoWatcher}
 
 pub data End : Type 0 where
   IsDone : End
@@ -17,6 +17,8 @@ pub data End : Type 0 where
   ReadFailed : (file : List ℕ) → End
   WriteFailed : End
   KeepFailed : (file : List ℕ) → End
+  -- no watcher has the name
+  NotWatched : (name : List ℕ) → End
   OutOfMemory : End
 
 abbrev pub status_of : End → Status
@@ -30,8 +32,9 @@ status_of (ReadFailed file) = ReadFault
 status_of WriteFailed = WriteFault
 status_of (KeepFailed file) = KeepFault
 status_of OutOfMemory = NoMemory
+status_of (NotWatched name) = NoWatcher
 
--- The two parts of the line between `atac: ` and the newline: a file's name, and what is said of it.
+-- The two parts of the line between `atac: ` and the newline: the name of a file or of a watcher, and what is said of it.
 abbrev pub file_of : End → List ℕ
 file_of (NotAccepted file said) = file
 file_of (NotHeld file) = file
@@ -39,6 +42,7 @@ file_of (TooLong file) = file
 file_of (NoTrace file why) = file
 file_of (ReadFailed file) = file
 file_of (KeepFailed file) = file
+file_of (NotWatched name) = name
 file_of end = []
 
 -- What is wrong with a trace: a number and its name.
@@ -62,6 +66,7 @@ said_of (ReadFailed file) = codes ": read fault"
 said_of WriteFailed = codes "write fault"
 said_of (KeepFailed file) = codes ": keep fault"
 said_of OutOfMemory = codes "no memory"
+said_of (NotWatched name) = codes ": no watcher"
 
 -- The line, with its newline. A call that is done puts none.
 abbrev pub line_of : End → List ℕ

@@ -26,10 +26,12 @@ pub enum Status {
     KeepFault,
     /// Memory was wanted and not found. This may come in place of each status but `Usage`.
     NoMemory,
+    /// No watcher has the name.
+    NoWatcher,
 }
 
 impl Status {
-    /// The exit code, from 0 to 10. It is 0 for `Done` alone.
+    /// The exit code, from 0 to 11. It is 0 for `Done` alone.
     pub fn code(&self) -> u8
         ensures { result ≡ code_of self.now }
     {
@@ -44,6 +46,7 @@ impl Status {
             Status::WriteFault => 8,
             Status::KeepFault => 9,
             Status::NoMemory => 10,
+            Status::NoWatcher => 11,
         }
     }
 }

@@ -50,6 +50,8 @@ pub enum Stop<'a> {
     WriteFailed,
     KeepFailed(&'a str),
     NoMemory,
+    /// No watcher has the name.
+    NotWatched(&'a str),
 }
 
 impl<'a> Stop<'a> {
@@ -67,10 +69,11 @@ impl<'a> Stop<'a> {
             Stop::WriteFailed => Status::WriteFault,
             Stop::KeepFailed(_) => Status::KeepFault,
             Stop::NoMemory => Status::NoMemory,
+            Stop::NotWatched(_) => Status::NoWatcher,
         }
     }
 
-    /// The file that it speaks of, or nothing.
+    /// The name of the file or watcher that it speaks of, or nothing.
     pub fn file(&self) -> &'a [u8]
         ensures { result.now ≡ file_of (end_of self.now) }
     {
@@ -83,10 +86,11 @@ impl<'a> Stop<'a> {
             Stop::WriteFailed => b"",
             Stop::KeepFailed(file) => file.as_bytes(),
             Stop::NoMemory => b"",
+            Stop::NotWatched(name) => name.as_bytes(),
         }
     }
 
-    /// What it says, behind the name of its file.
+    /// What it says, behind that name.
     pub fn said(&self) -> &[u8]
         ensures { result.now ≡ said_of (end_of self.now) }
     {
@@ -99,6 +103,7 @@ impl<'a> Stop<'a> {
             Stop::WriteFailed => b"write fault",
             Stop::KeepFailed(_) => b": keep fault",
             Stop::NoMemory => b"no memory",
+            Stop::NotWatched(_) => b": no watcher",
         }
     }
 }

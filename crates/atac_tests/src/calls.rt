@@ -52,7 +52,14 @@ pub fn call(
     let _ = shelf.keep("e", input);
     let mut out = MemorySink::new(alloc, only(alloc, fails.put)?);
     let mut err = MemorySink::new(alloc, only(alloc, fails.tell)?);
-    let status = atac(alloc, &given, &mut shelf, &mut out, &mut err);
+    let status = atac(
+        alloc,
+        &given,
+        &mut shelf,
+        &mut out,
+        &mut err,
+        Vec::new(alloc),
+    );
     Ok(Left { status, out, err })
 }
 

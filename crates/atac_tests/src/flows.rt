@@ -32,7 +32,7 @@ fn call(alloc: Global, shelf: &mut MemoryShelf, line: &str) -> Result<Left, Allo
     }
     let mut out = MemorySink::new(alloc, Vec::new(alloc));
     let mut err = MemorySink::new(alloc, Vec::new(alloc));
-    let status = atac(alloc, &words, shelf, &mut out, &mut err);
+    let status = atac(alloc, &words, shelf, &mut out, &mut err, Vec::new(alloc));
     Ok(Left { status, out, err })
 }
 

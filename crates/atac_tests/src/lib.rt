@@ -12,6 +12,8 @@ mod events;
 #[cfg(test)]
 mod flows;
 #[cfg(test)]
+mod handed;
+#[cfg(test)]
 mod lexer;
 #[cfg(test)]
 mod pieces;
@@ -25,3 +27,5 @@ mod tables;
 mod tests;
 #[cfg(test)]
 mod traces;
+#[cfg(test)]
+mod watchers;

@@ -1,13 +1,15 @@
 -- The answers of the commands, as far as their steps have come.
-use Rattle.std.proofs.Common.{◌≡◌, refl, ap, List, [], ◌∷◌, ℕ, Option, None, Some}
+use Rattle.std.proofs.Common.{◌≡◌, refl, ap, List, [], ◌∷◌, ◌++◌, ℕ, Bool, Option, None, Some}
 use Rattle.c_meaning.specs.Calls.{Source}
 use Rattle.atac_base.specs.Items.{ItemLists}
-use Rattle.atac_words.specs.Words.{Command, Check, ListItems, Instrument, Cover, Run, RunInto, Merge, Tell}
+use Rattle.atac_words.specs.Words.{Command, Check, ListItems, Instrument, Cover, Run, RunInto, Merge, Tell, Pick, Watch}
 use Rattle.atac_steps.specs.Ends.{End, IsDone, NotAccepted}
-use Rattle.atac_top.specs.Programs.{Counts, Reading, Refuses, Counted, Listed, Runs, Covers, Probes, Viewed, Merges, Records, IsRecorded, IsUnderstood, counts_text, section, view_text, runs_text}
-use Rattle.atac_top.specs.Answers.{Answer, asked, text, refused, covering, joining, keeping, old_given, input_most}
+use Rattle.atac_programs.specs.Programs.{Counts, IsRecorded, counts_text, section, IsCovered, IsTaken, shown}
+use Rattle.atac_top.specs.Readings.{Reading, Refuses, Counted, Listed, Runs, Covers, Probes, Viewed, Merges, Records, Picks, Watches, Saying, IsUnderstood, view_text, runs_text}
+use Rattle.atac_top.specs.Answers.{Answer, asked, text, refused, covering, joining, keeping, old_given, gathering, marked_by, saying, input_most}
 use Rattle.atac_steps.specs.Got.{gets, Got, Gets, Stops}
-use Rattle.atac_top.specs.Runs.{IsOfGot, AreRead, IsRunInto, Understands}
+use Rattle.atac_top.specs.Runs.{IsOfGot, AreRead, IsRunInto, ArePicked, Understands}
+use Rattle.run_pick.specs.Lines.{pick_text}
 use Rattle.sha2.specs.Sha256.{sha256}
 use Rattle.trace_file.specs.declared.trace.Trace.{Trace}
 use Rattle.atac_words.specs.declared.words.View.{View}
@@ -158,3 +160,49 @@ module _ (n : ℕ) (p i t : List ℕ) (fp fi ft : Option (List ℕ)) where
       pub into_goes : (b : List ℕ) → gets i input_most fi ≡ Gets b
           → asked (Some (RunInto n p i t)) (Records P old new) (fp ∷ fi ∷ ft ∷ []) ≡ old_given t (gets t trace_most ft) old (keeping t new (λ x. section i P b n))
       into_goes b l = rw (h, l)
+
+-- ---- the answer of `pick`
+
+module _ (n : ℕ) (p : List ℕ) (is : List (List ℕ)) (fp : Option (List ℕ)) (fs : List (Option (List ℕ))) where
+  pub pick_stopped : (e : End) → gets p 1048576 fp ≡ Stops e
+      → Understands (Some (Pick n p is)) (fp ∷ fs) (Refuses []) × (asked (Some (Pick n p is)) (Refuses []) (fp ∷ fs) ≡ refused [] e)
+  pick_stopped e h = ((stopped_got (Pick n p is) (gets p 1048576 fp) e h, tt), rw h)
+
+  module _ (s : List ℕ) (h : gets p 1048576 fp ≡ Gets s) where
+    pub pick_not : (said : List ℕ) → IsUnderstood (Pick n p is) s (Refuses said) → Understands (Some (Pick n p is)) (fp ∷ fs) (Refuses said)
+    pick_not said is = (rw h is, tt)
+
+    pub pick_refused : (said : List ℕ) → asked (Some (Pick n p is)) (Refuses said) (fp ∷ fs) ≡ refused [] (NotAccepted p said)
+    pick_refused said = rw h
+
+    module _ (P : Source) (items : ItemLists) (marks : Option (List Bool)) where
+      pub pick_understands : IsCovered s P items → ArePicked n P items is fs marks → Understands (Some (Pick n p is)) (fp ∷ fs) (Picks P items marks)
+      pick_understands is picked = (rw h is, picked)
+
+      pub pick_goes : asked (Some (Pick n p is)) (Picks P items marks) (fp ∷ fs) ≡ gathering is fs [] (λ all. marked_by marks (λ kept. record { end = IsDone; sections = []; rest = pick_text kept is items (shown P n all); kept = None }))
+      pick_goes = rw h
+
+-- ---- the answer of `watch`
+
+module _ (n : ℕ) (p i w : List ℕ) (fp fi : Option (List ℕ)) where
+  pub watch_stopped : (e : End) → gets p 1048576 fp ≡ Stops e
+      → Understands (Some (Watch n p i w)) (fp ∷ fi ∷ []) (Refuses []) × (asked (Some (Watch n p i w)) (Refuses []) (fp ∷ fi ∷ []) ≡ refused [] e)
+  watch_stopped e h = ((stopped_got (Watch n p i w) (gets p 1048576 fp) e h, tt), rw h)
+
+  module _ (s : List ℕ) (h : gets p 1048576 fp ≡ Gets s) where
+    pub watch_not : (said : List ℕ) → IsUnderstood (Watch n p i w) s (Refuses said) → Understands (Some (Watch n p i w)) (fp ∷ fi ∷ []) (Refuses said)
+    watch_not said is = (rw h is, tt)
+
+    pub watch_refused : (said : List ℕ) → asked (Some (Watch n p i w)) (Refuses said) (fp ∷ fi ∷ []) ≡ refused [] (NotAccepted p said)
+    watch_refused said = rw h
+
+    module _ (P : Source) (told : Saying) where
+      pub watch_understands : IsTaken s P → Understands (Some (Watch n p i w)) (fp ∷ fi ∷ []) (Watches P told)
+      watch_understands is = (rw h is, tt)
+
+      pub watch_stops : (e : End) → gets i input_most fi ≡ Stops e → asked (Some (Watch n p i w)) (Watches P told) (fp ∷ fi ∷ []) ≡ refused [] e
+      watch_stops e l = rw (h, l)
+
+      pub watch_goes : (b : List ℕ) → gets i input_most fi ≡ Gets b
+          → asked (Some (Watch n p i w)) (Watches P told) (fp ∷ fi ∷ []) ≡ saying w told (λ said. record { end = IsDone; sections = []; rest = section i P b n ++ said; kept = None })
+      watch_goes b l = rw (h, l)

@@ -9,7 +9,8 @@ use Rattle.atac_base.specs.Outside.{ShelfState, SinkState, Said, Agrees}
 use Rattle.c_meaning.specs.Calls.{Source}
 use Rattle.atac_words.specs.Words.{Command, Cover}
 use Rattle.atac_steps.specs.Ends.{End, BadWords, OutOfMemory}
-use Rattle.atac_top.specs.Programs.{Reading, Covers, IsUnderstood, section, report}
+use Rattle.atac_programs.specs.Programs.{section, report}
+use Rattle.atac_top.specs.Readings.{Reading, Covers, IsUnderstood}
 use Rattle.atac_top.specs.Answers.{Answer, asked, names, joined, text, refused, given, covering, input_most}
 use Rattle.atac_steps.specs.Got.{Got, gets, Gets, Stops, AllAgree}
 use Rattle.atac_steps.specs.Grows.{ShelfGrows, SinkGrows}
@@ -131,7 +132,7 @@ module _ (P : Source) (items : ItemLists) (n : ℕ) where
         let all = h.agrees fs (said, guesses_agree shelf.says is) in
         let a = h.is fs in
         let front = covering_begins (i ∷ is) fs done got in
-        fetch_stops c shelf shelf' out out' (h.found ++ fs) all u (h.understands fs) (says ∙ h.says) (shelf_goes_on _ _ _ h.shelf_grows shelf_grows) (sink_goes_on _ _ _ h.out_grows out_grows)
+        fetch_stops _ c shelf shelf' out out' (h.found ++ fs) all u (h.understands fs) (says ∙ h.says) (shelf_goes_on _ _ _ h.shelf_grows shelf_grows) (sink_goes_on _ _ _ h.out_grows out_grows)
         (length done + 1) i input_most found mid (joined done) e k.0
         (rw h.at.1 (rw (sym h.at.2) (at_length h.at.0 i is))) h.shelf_grows
         (λ stops.
@@ -147,7 +148,7 @@ module _ (P : Source) (items : ItemLists) (n : ℕ) where
         let after : Answer = behind i is (guesses shelf.says is) done got k.0 in
         let a : asked c u (h.found ++ fs) ≡ after = h.is fs ∙ ap (λ got_it. given done got_it (behind i is (guesses shelf.says is) done got)) k.1 in
         let begins = begins_text done (section i P k.0 n) after (covering_begins is (guesses shelf.says is) (done ++ section i P k.0 n ∷ []) (got ++ k.0 ∷ [])) in
-        put_stops c shelf shelf' out out' (h.found ++ fs) all u (h.understands fs) (says ∙ h.says) (shelf_goes_on _ _ _ h.shelf_grows shelf_grows) (sink_goes_on _ _ _ h.out_grows out_grows)
+        put_stops _ c shelf shelf' out out' (h.found ++ fs) all u (h.understands fs) (says ∙ h.says) (shelf_goes_on _ _ _ h.shelf_grows shelf_grows) (sink_goes_on _ _ _ h.out_grows out_grows)
         between (joined done) k.2.0 e k.3
         (front_of (joined done) (section i P k.0 n) begins.0 _ _ k.2.1 (ap (λ (b : Answer). text b) a ∙ begins.1)) h.bytes k.2.2 h.out_grows
 
@@ -156,13 +157,13 @@ module _ (P : Source) (items : ItemLists) (n : ℕ) where
     -- memory was wanted for the report
     pub came_wants : Goes c shelf mid out between OutOfMemory
     came_wants =
-        wants_memory c shelf mid out between (h.found ++ []) (h.agrees [] tt) u (h.understands []) h.says h.shelf_grows h.out_grows (length done) (joined done)
+        wants_memory _ c shelf mid out between (h.found ++ []) (h.agrees [] tt) u (h.understands []) h.says h.shelf_grows h.out_grows (length done) (joined done)
         (sym (ap joined (ap (λ (b : Answer). take (length done) b.sections) (h.is []) ∙ take_all done))) h.bytes
 
     -- the report, as the last step
     pub came_ends : (out' : SinkState) (piece : List ℕ) (r : Result (Unit {0}) Stop) → Puts between out' piece r → piece ≡ report P items n got → Goes c shelf mid out out' (ended r)
     came_ends out' piece r put is =
-        put_ends c shelf mid out out' (h.found ++ []) (h.agrees [] tt) u (h.understands []) h.says h.shelf_grows (sink_goes_on _ _ _ h.out_grows put.grows)
+        put_ends _ c shelf mid out out' (h.found ++ []) (h.agrees [] tt) u (h.understands []) h.says h.shelf_grows (sink_goes_on _ _ _ h.out_grows put.grows)
         between (joined done) piece r put
         (ap (λ (b : Answer). b.end) (h.is [])) (ap (λ (b : Answer). b.kept) (h.is [])) (ap (λ (b : Answer). text b) (h.is []) ∙ ap (λ xs. joined done ++ xs) (sym is))
         h.bytes h.out_grows

@@ -6,14 +6,15 @@ use Rattle.atac_facts.specs.declared.fact.Fact.{Fact}
 use Rattle.atac_base.specs.Items.{ItemLists}
 use Rattle.atac_base.specs.Outside.{ShelfState, SinkState, IsFront}
 use Rattle.c_meaning.specs.Calls.{Source}
-use Rattle.atac_top.specs.Programs.{section, shown}
+use Rattle.atac_programs.specs.Programs.{section, shown}
 use Rattle.atac_top.specs.Answers.{input_most}
 use Rattle.atac_steps.specs.Got.{gets, Gets}
 use Rattle.atac_steps.specs.Steps.{Puts}
-use Rattle.atac_top.specs.Progress.{Stands, with_run, SectionGives}
+use Rattle.atac_programs.specs.Programs.{with_run}
+use Rattle.atac_top.specs.Progress.{Stands, SectionGives}
 use Rattle.atac_steps.specs.declared.stop.Stop.{Stop}
 use Rattle.atac_top.specs.declared.covering.Covering.{Covering}
-use Rattle.atac_top.proofs.Running.{shown_more}
+use Rattle.atac_programs.proofs.Running.{shown_more}
 
 module _ (shelf shelf' : ShelfState) (out out' : SinkState) (input : List ℕ) (P : Source) (items : ItemLists) (limit : ℕ) (has : Fact → Bool) (c : Covering) (found : Option (List ℕ)) (bytes given piece : List ℕ) where
   -- the section was put, or a front of it

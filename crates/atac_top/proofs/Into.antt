@@ -7,7 +7,7 @@ use Rattle.c_meaning.specs.Calls.{Source}
 use Rattle.trace_file.specs.Layout.{bytes_of}
 use Rattle.trace_file.specs.declared.trace.Trace.{Trace}
 use Rattle.atac_words.specs.Words.{RunInto}
-use Rattle.atac_steps.specs.Ends.{End, IsDone, BadWords, NotAccepted, NotHeld, TooLong, NoTrace, ReadFailed, WriteFailed, KeepFailed, OutOfMemory}
+use Rattle.atac_steps.specs.Ends.{End, IsDone, BadWords, NotAccepted, NotHeld, TooLong, NoTrace, ReadFailed, WriteFailed, KeepFailed, NotWatched, OutOfMemory}
 use Rattle.atac_steps.specs.declared.stop.TraceFault.{TraceFault}
 use Rattle.atac_steps.specs.declared.stop.TraceFault.TheVariants.{NotATrace, Version, Length, Order, Damaged, OtherProgram, TooMuch}
 use Rattle.atac_steps.specs.Got.{Got, gets, Gets, Stops}
@@ -18,8 +18,8 @@ use Rattle.atac_steps.specs.declared.stop.Stop.{Stop}
 use Rattle.atac_steps.proofs.Growing.{sink_stays, shelf_goes_on}
 use Rattle.atac_traces.specs.Files.{Read, Has, Bad, IsFaulty, OldStops, OldGives, trace_most}
 use Rattle.atac_traces.specs.Keeping.{SpellStops}
-use Rattle.atac_top.specs.Understanding.{begun}
-use Rattle.atac_top.specs.Programs.{Records, IsRecorded, IsRunMore, section, met_by}
+use Rattle.atac_top.specs.Readings.{begun, Records, IsRunMore}
+use Rattle.atac_programs.specs.Programs.{IsRecorded, section, met_by}
 use Rattle.atac_top.specs.Answers.{Answer, asked, text, joined, refused, keeping, old_given, input_most}
 use Rattle.atac_top.specs.Runs.{OldIs, IsRunInto, Goes}
 use Rattle.atac_top.proofs.Asked.{into_understands, into_stops, into_goes}
@@ -44,7 +44,7 @@ module _ (n : ℕ) (p i t : List ℕ) (s : List ℕ) (shelf mid shelf' : ShelfSt
   -- the input stops it
   pub input_stops : (fi ft : Option (List ℕ)) → Agrees (shelf.says i) fi → Agrees (shelf.says t) ft → (e : End) → FetchStops mid shelf' i input_most fi e → Goes (Some (RunInto n p i t)) shelf shelf' out out e
   input_stops fi ft ai at e k =
-      fetch_stops (Some (RunInto n p i t)) shelf shelf' out out (fp ∷ fi ∷ ft ∷ []) (agrees, (ai, (at, tt))) (Records P None None) (into_understands n p i t fp fi ft s gives P None None is (nothing fi ft)) (says ∙ same) (shelf_goes_on _ _ _ grows more) (sink_stays out)
+      fetch_stops _ (Some (RunInto n p i t)) shelf shelf' out out (fp ∷ fi ∷ ft ∷ []) (agrees, (ai, (at, tt))) (Records P None None) (into_understands n p i t fp fi ft s gives P None None is (nothing fi ft)) (says ∙ same) (shelf_goes_on _ _ _ grows more) (sink_stays out)
       1 i input_most fi mid [] e k refl grows
       (λ stops. let stopped = into_stops n p i t fp fi ft s gives P None None e stops in (sym (ap (λ (a : Answer). a.end) stopped), sym (ap (λ (a : Answer). text a) stopped)))
       refl (known_nothing _)
@@ -56,7 +56,7 @@ module _ (n : ℕ) (p i t : List ℕ) (s b : List ℕ) (shelf mid shelf' : Shelf
 
   trace_fetch : (e : End) → ((file : List ℕ) → e ≡ NotHeld file → ⊥) → FetchStops mid shelf' t trace_most ft e → Goes (Some (RunInto n p i t)) shelf shelf' out out e
   trace_fetch e held k =
-      fetch_stops (Some (RunInto n p i t)) shelf shelf' out out (fp ∷ fi ∷ ft ∷ []) (agrees, (ai, (at, tt))) (Records P None None) (into_understands n p i t fp fi ft s gives P None None is nothing_more) (says ∙ same) (shelf_goes_on _ _ _ grows more) (sink_stays out)
+      fetch_stops _ (Some (RunInto n p i t)) shelf shelf' out out (fp ∷ fi ∷ ft ∷ []) (agrees, (ai, (at, tt))) (Records P None None) (into_understands n p i t fp fi ft s gives P None None is nothing_more) (says ∙ same) (shelf_goes_on _ _ _ grows more) (sink_stays out)
       2 t trace_most ft mid [] e k refl grows
       (λ stops. let stopped = into_goes n p i t fp fi ft s gives P None None b input ∙ ap (λ got. old_given t got None (keeping t None (λ x. section i P b n))) stops ∙ given_stops e held in (sym (ap (λ (a : Answer). a.end) stopped), sym (ap (λ (a : Answer). text a) stopped)))
       (sym (ap joined (take_none 1 _ (ap (λ (a : Answer). a.sections) (into_goes n p i t fp fi ft s gives P None None b input) ∙ old_plain (gets t trace_most ft)))))
@@ -72,6 +72,7 @@ module _ (n : ℕ) (p i t : List ℕ) (s b : List ℕ) (shelf mid shelf' : Shelf
       given_stops (ReadFailed file) held = refl
       given_stops WriteFailed held = refl
       given_stops (KeepFailed file) held = refl
+      given_stops (NotWatched file) held = refl
       given_stops OutOfMemory held = refl
 
       old_plain : (got : Got) → (old_given t got None (keeping t None (λ x. section i P b n))).sections ≡ []
@@ -85,11 +86,12 @@ module _ (n : ℕ) (p i t : List ℕ) (s b : List ℕ) (shelf mid shelf' : Shelf
       old_plain (Stops (ReadFailed file)) = refl
       old_plain (Stops WriteFailed) = refl
       old_plain (Stops (KeepFailed file)) = refl
+      old_plain (Stops (NotWatched file)) = refl
       old_plain (Stops OutOfMemory) = refl
 
   trace_bad : (why : TraceFault) → ((bytes : List ℕ) × (gets t trace_most ft ≡ Gets bytes) × IsFaulty is.digest bytes why) → Goes (Some (RunInto n p i t)) shelf shelf' out out (NoTrace t why)
   trace_bad why k =
-      no_trace (Some (RunInto n p i t)) shelf shelf' out out (fp ∷ fi ∷ ft ∷ []) (agrees, (ai, (at, tt))) (Records P (Some (Bad why)) None)
+      no_trace _ (Some (RunInto n p i t)) shelf shelf' out out (fp ∷ fi ∷ ft ∷ []) (agrees, (ai, (at, tt))) (Records P (Some (Bad why)) None)
       (into_understands n p i t fp fi ft s gives P (Some (Bad why)) None is (record { digest = is.digest; line = is.line; old = record { digest = is.digest; runs = 0; old_runs = 0; tally = [] }; is = subst (λ got. OldIs is.digest got (Some (Bad why)) (record { digest = is.digest; runs = 0; old_runs = 0; tally = [] })) (sym k.1) k.2; more = tt }))
       (says ∙ same) (shelf_goes_on _ _ _ grows more) (sink_stays out) t why
       (into_goes n p i t fp fi ft s gives P (Some (Bad why)) None b input ∙ ap (λ got. old_given t got (Some (Bad why)) (keeping t None (λ x. section i P b n))) k.1)
@@ -107,10 +109,11 @@ module _ (n : ℕ) (p i t : List ℕ) (s b : List ℕ) (shelf mid shelf' : Shelf
   trace_stops (NotAccepted file said) k = absurd k
   trace_stops WriteFailed k = absurd k
   trace_stops (KeepFailed file) k = absurd k
+  trace_stops (NotWatched file) k = absurd k
 
   pub into_wants : Goes (Some (RunInto n p i t)) shelf shelf' out out OutOfMemory
   into_wants =
-      wants_memory (Some (RunInto n p i t)) shelf shelf' out out (fp ∷ fi ∷ ft ∷ []) (agrees, (ai, (at, tt))) (Records P None None) (into_understands n p i t fp fi ft s gives P None None is nothing_more) (says ∙ same) (shelf_goes_on _ _ _ grows more) (sink_stays out) 0 [] refl (known_nothing _)
+      wants_memory _ (Some (RunInto n p i t)) shelf shelf' out out (fp ∷ fi ∷ ft ∷ []) (agrees, (ai, (at, tt))) (Records P None None) (into_understands n p i t fp fi ft s gives P None None is nothing_more) (says ∙ same) (shelf_goes_on _ _ _ grows more) (sink_stays out) 0 [] refl (known_nothing _)
 
   -- with the new trace
   module _ (read : Option Read) (old new : Trace) (old_is : OldIs is.digest (gets t trace_most ft) read old) (goes : (k : Answer) → old_given t (gets t trace_most ft) read k ≡ k) (run : IsRunMore old new (met_by P n b)) where
@@ -122,7 +125,7 @@ module _ (n : ℕ) (p i t : List ℕ) (s b : List ℕ) (shelf mid shelf' : Shelf
 
     pub into_large : trace_most < length (bytes_of new) → Goes (Some (RunInto n p i t)) shelf shelf' out out (NoTrace t TooMuch)
     into_large large =
-        no_trace (Some (RunInto n p i t)) shelf shelf' out out (fp ∷ fi ∷ ft ∷ []) (agrees, (ai, (at, tt))) (Records P read (Some new)) (into_understands n p i t fp fi ft s gives P read (Some new) is understood) (says ∙ same) (shelf_goes_on _ _ _ grows more) (sink_stays out) t TooMuch
+        no_trace _ (Some (RunInto n p i t)) shelf shelf' out out (fp ∷ fi ∷ ft ∷ []) (agrees, (ai, (at, tt))) (Records P read (Some new)) (into_understands n p i t fp fi ft s gives P read (Some new) is understood) (says ∙ same) (shelf_goes_on _ _ _ grows more) (sink_stays out) t TooMuch
         (answer ∙ keeping_large t new (λ x. section i P b n) large) (known_nothing _)
 
     large_of : (file : List ℕ) (why : TraceFault) → SpellStops t new (NoTrace file why) → Goes (Some (RunInto n p i t)) shelf shelf' out out (NoTrace file why)
@@ -146,16 +149,17 @@ module _ (n : ℕ) (p i t : List ℕ) (s b : List ℕ) (shelf mid shelf' : Shelf
     spell_stops (ReadFailed file) k = absurd k
     spell_stops WriteFailed k = absurd k
     spell_stops (KeepFailed file) k = absurd k
+    spell_stops (NotWatched file) k = absurd k
 
     module _ (small : length (bytes_of new) ≤ trace_most) (out' : SinkState) (piece : List ℕ) (whole : piece ≡ section i P b n) where
       pub into_breaks : (stop : Stop) → Puts out out' piece (Err stop) → Goes (Some (RunInto n p i t)) shelf shelf' out out' (end_of stop)
       into_breaks stop puts =
-          put_breaks (Some (RunInto n p i t)) shelf shelf' out out' (fp ∷ fi ∷ ft ∷ []) (agrees, (ai, (at, tt))) (Records P read (Some new)) (into_understands n p i t fp fi ft s gives P read (Some new) is understood) (says ∙ same) (shelf_goes_on _ _ _ grows more) puts.grows
+          put_breaks _ (Some (RunInto n p i t)) shelf shelf' out out' (fp ∷ fi ∷ ft ∷ []) (agrees, (ai, (at, tt))) (Records P read (Some new)) (into_understands n p i t fp fi ft s gives P read (Some new) is understood) (says ∙ same) (shelf_goes_on _ _ _ grows more) puts.grows
           out [] piece [] stop puts (ap (λ (a : Answer). text a) (answer ∙ keeping_small t new (λ x. section i P b n) small) ∙ sym (append-nil piece ∙ whole)) (known_nothing _) (sink_stays out)
 
       pub into_ends : (last : ShelfState) (spelled : List ℕ) (r : Result (Unit {0}) Stop) → Puts out out' piece (Ok tt) → spelled ≡ bytes_of new → KeepsAs shelf' last t spelled r → Goes (Some (RunInto n p i t)) shelf last out out' (ended r)
       into_ends last spelled r puts same_bytes keeps =
-          keep_ends (Some (RunInto n p i t)) shelf shelf' last out out' (fp ∷ fi ∷ ft ∷ []) (agrees, (ai, (at, tt))) (Records P read (Some new)) (into_understands n p i t fp fi ft s gives P read (Some new) is understood) (says ∙ same) (shelf_goes_on _ _ _ grows more) puts.grows
+          keep_ends _ (Some (RunInto n p i t)) shelf shelf' last out out' (fp ∷ fi ∷ ft ∷ []) (agrees, (ai, (at, tt))) (Records P read (Some new)) (into_understands n p i t fp fi ft s gives P read (Some new) is understood) (says ∙ same) (shelf_goes_on _ _ _ grows more) puts.grows
           t (bytes_of new) (section i P b n) (answer ∙ keeping_small t new (λ x. section i P b n) small) (puts.gives ∙ ap (append_known out.bytes) whole) r (subst (λ x. KeepsAs shelf' last t x r) same_bytes keeps)
 
 -- the old trace, as it was found

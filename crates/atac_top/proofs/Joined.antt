@@ -4,7 +4,7 @@ use Rattle.std.specs.Prelude.{slice_get}
 use Rattle.atac_base.specs.Outside.{ShelfState, SinkState, Said, Agrees}
 use Rattle.trace_file.specs.declared.trace.Trace.{Trace}
 use Rattle.atac_words.specs.Words.{Command}
-use Rattle.atac_steps.specs.Ends.{End, IsDone, BadWords, NotAccepted, NotHeld, TooLong, NoTrace, ReadFailed, WriteFailed, KeepFailed, OutOfMemory}
+use Rattle.atac_steps.specs.Ends.{End, IsDone, BadWords, NotAccepted, NotHeld, TooLong, NoTrace, ReadFailed, WriteFailed, KeepFailed, NotWatched, OutOfMemory}
 use Rattle.atac_steps.specs.declared.stop.TraceFault.{TraceFault}
 use Rattle.atac_steps.specs.Got.{gets, Gets, Stops, AllAgree}
 use Rattle.atac_steps.specs.Grows.{ShelfGrows}
@@ -12,7 +12,7 @@ use Rattle.atac_steps.specs.Steps.{FetchStops}
 use Rattle.atac_steps.proofs.Growing.{sink_stays, shelf_goes_on}
 use Rattle.atac_traces.specs.Files.{Read, Has, Bad, IsFaulty, TraceStops, trace_most}
 use Rattle.atac_traces.specs.Joins.{AreTraces, Came, StopsAt}
-use Rattle.atac_top.specs.Programs.{Reading}
+use Rattle.atac_top.specs.Readings.{Reading}
 use Rattle.atac_top.specs.Answers.{Answer, asked, names, joined, text, refused, given, next_read, joining}
 use Rattle.atac_top.specs.Runs.{AreRead, IsReadIn, Understands, Goes}
 use Rattle.atac_top.proofs.Course.{guesses, guesses_agree, at_length}
@@ -145,7 +145,7 @@ module _ (c : Option Command) (shelf mid shelf' : ShelfState) (out : SinkState) 
     fetch_stopped k =
         let reads : List Read = map Has h.came.traces ++ [] in
         let u = understands more_found reads (read_to [] tt) in
-        fetch_stops c shelf shelf' out out (found ++ more_found) (agrees more_found all_found) (reading reads) u says_same all_grows (sink_stays out)
+        fetch_stops _ c shelf shelf' out out (found ++ more_found) (agrees more_found all_found) (reading reads) u says_same all_grows (sink_stays out)
         (length (first ++ h.came.done)) h.name trace_most h.found h.mid [] e k
         (ap (λ l. slice_get l (length (first ++ h.came.done))) (at ∙ ap (λ l. first ++ l) h.came.at ∙ sym (append_assoc first h.came.done (h.name ∷ h.left))) ∙ at_length (first ++ h.came.done) h.name h.left)
         (shelf_goes_on _ _ _ grows h.came.grows)
@@ -159,7 +159,7 @@ module _ (c : Option Command) (shelf mid shelf' : ShelfState) (out : SinkState) 
     not_a_trace why k =
         let reads : List Read = map Has h.came.traces ++ Bad why ∷ [] in
         let u = understands more_found reads (read_to (Bad why ∷ []) (subst (λ got. IsReadIn digest got (Bad why)) (sym k.1) k.2, tt)) in
-        no_trace c shelf shelf' out out (found ++ more_found) (agrees more_found all_found) (reading reads) u says_same all_grows (sink_stays out) h.name why
+        no_trace _ c shelf shelf' out out (found ++ more_found) (agrees more_found all_found) (reading reads) u says_same all_grows (sink_stays out) h.name why
         (is more_found reads ∙ answer_to (Bad why ∷ []) ∙ ap (λ got. given [] got (λ bytes. next_read h.name (Bad why ∷ []) (λ t rest. joining h.left (guesses shelf.says h.left) rest ((before ++ h.came.traces) ++ t ∷ []) go))) k.1)
         (known_nothing _)
 
@@ -174,6 +174,7 @@ module _ (c : Option Command) (shelf mid shelf' : ShelfState) (out : SinkState) 
   by_end old d (NotAccepted file said) h k = absurd k
   by_end old d WriteFailed h k = absurd k
   by_end old d (KeepFailed file) h k = absurd k
+  by_end old d (NotWatched file) h k = absurd k
 
   pub join_stops : (old : Trace) → old.digest ≡ digest → (e : End) → StopsAt mid shelf' old left e → Goes c shelf shelf' out out e
   join_stops old d e h = by_end old d e h (subst (λ x. TraceStops h.mid shelf' x h.name h.found e) d h.stops)

@@ -4,12 +4,13 @@ pub mod Course
 pub mod Exits
 pub mod Inputs
 pub mod Lines
-pub mod Reading
-pub mod Running
 pub mod Joined
 pub mod Sums
 pub mod Told
 pub mod Merged
 pub mod Into
-pub mod Same
+pub mod Sure
 pub mod Traced
+pub mod Picked
+pub mod Watched
+pub mod Gathered

@@ -7,7 +7,7 @@ use Rattle.trace_file.specs.Layout.{bytes_of}
 use Rattle.trace_file.specs.Reading.{Accepts}
 use Rattle.trace_file.specs.declared.trace.Trace.{Trace}
 use Rattle.atac_words.specs.Words.{Merge}
-use Rattle.atac_steps.specs.Ends.{End, IsDone, BadWords, NotAccepted, NotHeld, TooLong, NoTrace, ReadFailed, WriteFailed, KeepFailed, OutOfMemory}
+use Rattle.atac_steps.specs.Ends.{End, IsDone, BadWords, NotAccepted, NotHeld, TooLong, NoTrace, ReadFailed, WriteFailed, KeepFailed, NotWatched, OutOfMemory}
 use Rattle.atac_steps.specs.declared.stop.TraceFault.{TraceFault}
 use Rattle.atac_steps.specs.declared.stop.TraceFault.TheVariants.{NotATrace, Version, Length, Order, Damaged, OtherProgram, TooMuch}
 use Rattle.atac_steps.specs.Got.{gets, Gets}
@@ -20,7 +20,7 @@ use Rattle.atac_traces.specs.Files.{Read, Has, Bad, IsFaulty, AnyStops, trace_mo
 use Rattle.atac_traces.specs.Keeping.{SpellStops}
 use Rattle.atac_traces.specs.Joins.{Came, StopsAt}
 use Rattle.atac_traces.proofs.One.{not_other}
-use Rattle.atac_top.specs.Programs.{Merges, runs_text}
+use Rattle.atac_top.specs.Readings.{Merges, runs_text}
 use Rattle.atac_top.specs.Answers.{Answer, text, joined, given, next_read, joining, keeping, refused, asked}
 use Rattle.atac_top.specs.Runs.{AreRead, IsReadIn, AreMerged, IsOwn, Goes}
 use Rattle.atac_top.proofs.Course.{guesses, guesses_agree}
@@ -43,7 +43,7 @@ module _ (o first : List ℕ) (rest : List (List ℕ)) (shelf shelf' : ShelfStat
 
   first_fetch : (e : End) → FetchStops shelf shelf' first trace_most f e → Goes (Some (Merge o (first ∷ rest))) shelf shelf' out out e
   first_fetch e k =
-      fetch_stops (Some (Merge o (first ∷ rest))) shelf shelf' out out (f ∷ guesses shelf.says rest) (agrees, guesses_agree shelf.says rest) (Merges [] None) no_reads same grows (sink_stays out)
+      fetch_stops _ (Some (Merge o (first ∷ rest))) shelf shelf' out out (f ∷ guesses shelf.says rest) (agrees, guesses_agree shelf.says rest) (Merges [] None) no_reads same grows (sink_stays out)
       0 first trace_most f shelf [] e k refl (shelf_stays shelf)
       (λ stops.
       let stopped : asked (Some (Merge o (first ∷ rest))) (Merges [] None) (f ∷ guesses shelf.says rest) ≡ refused [] e = ap (λ got. given [] got (λ bytes. next_read first [] (λ t reads. joining rest (guesses shelf.says rest) reads (t ∷ []) (λ all. keeping o None runs_text)))) stops in
@@ -63,7 +63,7 @@ module _ (o first : List ℕ) (rest : List (List ℕ)) (shelf shelf' : ShelfStat
   first_bad : (why : TraceFault) → ((bytes : List ℕ) × (gets first trace_most f ≡ Gets bytes) × ((digest : List ℕ) → IsFaulty digest bytes why)) → Goes (Some (Merge o (first ∷ rest))) shelf shelf' out out (NoTrace first why)
   first_bad why k =
       let w = own k.0 why k.2 in
-      no_trace (Some (Merge o (first ∷ rest))) shelf shelf' out out (f ∷ guesses shelf.says rest) (agrees, guesses_agree shelf.says rest) (Merges (Bad why ∷ []) None)
+      no_trace _ (Some (Merge o (first ∷ rest))) shelf shelf' out out (f ∷ guesses shelf.says rest) (agrees, guesses_agree shelf.says rest) (Merges (Bad why ∷ []) None)
       (record { program = w.0; are = (subst (λ got. IsReadIn w.0 got (Bad why)) (sym k.1) w.1, tt); first = w.2; sums = tt }) same grows (sink_stays out) first why
       (ap (λ got. given [] got (λ bytes. next_read first (Bad why ∷ []) (λ t reads. joining rest (guesses shelf.says rest) reads (t ∷ []) (λ all. keeping o None runs_text)))) k.1)
       (known_nothing _)
@@ -79,6 +79,7 @@ module _ (o first : List ℕ) (rest : List (List ℕ)) (shelf shelf' : ShelfStat
   first_stops (NotAccepted file said) k = absurd k
   first_stops WriteFailed k = absurd k
   first_stops (KeepFailed file) k = absurd k
+  first_stops (NotWatched file) k = absurd k
 
 -- the others, behind the first one
 module _ (o first : List ℕ) (rest : List (List ℕ)) (shelf mid shelf' : ShelfState) (out : SinkState) (f : Option (List ℕ)) (agrees : Agrees (shelf.says first) f) (bytes : List ℕ) (t : Trace) (gives : gets first trace_most f ≡ Gets bytes) (accepts : Accepts bytes t)
@@ -107,7 +108,7 @@ module _ (o first : List ℕ) (rest : List (List ℕ)) (shelf mid shelf' : Shelf
     pub rest_wants : Goes (Some (Merge o (first ∷ rest))) shelf shelf' out out OutOfMemory
     rest_wants =
         let j = joined_so in
-        wants_memory (Some (Merge o (first ∷ rest))) shelf shelf' out out ((f ∷ []) ++ j.more) j.agree (Merges (Has t ∷ map Has h.traces) None) j.understood j.says j.shelf_grows (sink_stays out) 0 [] refl (known_nothing _)
+        wants_memory _ (Some (Merge o (first ∷ rest))) shelf shelf' out out ((f ∷ []) ++ j.more) j.agree (Merges (Has t ∷ map Has h.traces) None) j.understood j.says j.shelf_grows (sink_stays out) 0 [] refl (known_nothing _)
 
     -- with the sum
     abbrev found : List (Option (List ℕ))
@@ -129,7 +130,7 @@ module _ (o first : List ℕ) (rest : List (List ℕ)) (shelf mid shelf' : Shelf
     pub rest_large : trace_most < length (bytes_of sum) → Goes (Some (Merge o (first ∷ rest))) shelf shelf' out out (NoTrace o TooMuch)
     rest_large large =
         let j = joined_so in
-        no_trace (Some (Merge o (first ∷ rest))) shelf shelf' out out found j.agree (Merges (Has t ∷ map Has h.traces) (Some sum)) summed j.says j.shelf_grows (sink_stays out) o TooMuch
+        no_trace _ (Some (Merge o (first ∷ rest))) shelf shelf' out out found j.agree (Merges (Has t ∷ map Has h.traces) (Some sum)) summed j.says j.shelf_grows (sink_stays out) o TooMuch
         (answer ∙ keeping_large o sum runs_text large) (known_nothing _)
 
     large_of : (file : List ℕ) (why : TraceFault) → SpellStops o sum (NoTrace file why) → Goes (Some (Merge o (first ∷ rest))) shelf shelf' out out (NoTrace file why)
@@ -153,16 +154,17 @@ module _ (o first : List ℕ) (rest : List (List ℕ)) (shelf mid shelf' : Shelf
     spell_stops (ReadFailed file) k = absurd k
     spell_stops WriteFailed k = absurd k
     spell_stops (KeepFailed file) k = absurd k
+    spell_stops (NotWatched file) k = absurd k
 
     module _ (small : length (bytes_of sum) ≤ trace_most) (out' : SinkState) (piece : List ℕ) (whole : piece ≡ runs_text sum) where
       pub rest_breaks : (stop : Stop) → Puts out out' piece (Err stop) → Goes (Some (Merge o (first ∷ rest))) shelf shelf' out out' (end_of stop)
       rest_breaks stop puts =
           let j = joined_so in
-          put_breaks (Some (Merge o (first ∷ rest))) shelf shelf' out out' found j.agree (Merges (Has t ∷ map Has h.traces) (Some sum)) summed j.says j.shelf_grows puts.grows out [] piece [] stop puts
+          put_breaks _ (Some (Merge o (first ∷ rest))) shelf shelf' out out' found j.agree (Merges (Has t ∷ map Has h.traces) (Some sum)) summed j.says j.shelf_grows puts.grows out [] piece [] stop puts
           (ap (λ (a : Answer). text a) (answer ∙ keeping_small o sum runs_text small) ∙ sym (append-nil piece ∙ whole)) (known_nothing _) (sink_stays out)
 
       pub rest_ends : (last : ShelfState) (spelled : List ℕ) (r : Result (Unit {0}) Stop) → Puts out out' piece (Ok tt) → spelled ≡ bytes_of sum → KeepsAs shelf' last o spelled r → Goes (Some (Merge o (first ∷ rest))) shelf last out out' (ended r)
       rest_ends last spelled r puts same_bytes keeps =
           let j = joined_so in
-          keep_ends (Some (Merge o (first ∷ rest))) shelf shelf' last out out' found j.agree (Merges (Has t ∷ map Has h.traces) (Some sum)) summed j.says j.shelf_grows puts.grows
+          keep_ends _ (Some (Merge o (first ∷ rest))) shelf shelf' last out out' found j.agree (Merges (Has t ∷ map Has h.traces) (Some sum)) summed j.says j.shelf_grows puts.grows
           o (bytes_of sum) (runs_text sum) (answer ∙ keeping_small o sum runs_text small) (puts.gives ∙ ap (append_known out.bytes) whole) r (subst (λ b. KeepsAs shelf' last o b r) same_bytes keeps)

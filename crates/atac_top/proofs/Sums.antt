@@ -15,7 +15,7 @@ use Rattle.atac_steps.specs.declared.stop.TraceFault.TheVariants.{TooMuch}
 use Rattle.atac_steps.specs.Ends.{NoTrace}
 use Rattle.atac_traces.specs.Files.{trace_most}
 use Rattle.atac_traces.specs.Totals.{total, count_in, AddsUp, IsSum}
-use Rattle.atac_top.specs.Programs.{met_in, are_exact}
+use Rattle.atac_top.specs.Readings.{met_in, are_exact}
 use Rattle.atac_top.specs.Answers.{keeping, refused}
 use Rattle.atac_top.proofs.Exits.{kept_answer}
 

@@ -17,7 +17,8 @@ use Rattle.atac_steps.specs.declared.stop.Stop.{Stop}
 use Rattle.atac_steps.proofs.Growing.{sink_stays}
 use Rattle.atac_traces.specs.Files.{Has}
 use Rattle.atac_traces.specs.Joins.{Came, StopsAt}
-use Rattle.atac_top.specs.Programs.{Viewed, IsCovered, view_text}
+use Rattle.atac_programs.specs.Programs.{IsCovered}
+use Rattle.atac_top.specs.Readings.{Viewed, view_text}
 use Rattle.atac_top.specs.Answers.{Answer, text}
 use Rattle.atac_top.specs.Runs.{Goes}
 use Rattle.atac_top.proofs.Asked.{tell_understands, tell_goes}
@@ -44,10 +45,10 @@ module _ (v : View) (p : List ℕ) (traces : List (List ℕ)) (s : List ℕ) (sh
     pub tell_wants : Goes (Some (Tell v p traces)) shelf shelf' out out OutOfMemory
     tell_wants =
         let j = joined_so in
-        wants_memory (Some (Tell v p traces)) shelf shelf' out out ((fp ∷ []) ++ j.more) j.agree (Viewed P items (map Has h.traces)) j.understood j.says j.shelf_grows (sink_stays out) 0 [] refl (known_nothing _)
+        wants_memory _ (Some (Tell v p traces)) shelf shelf' out out ((fp ∷ []) ++ j.more) j.agree (Viewed P items (map Has h.traces)) j.understood j.says j.shelf_grows (sink_stays out) 0 [] refl (known_nothing _)
 
     pub tell_ends : (out' : SinkState) (piece : List ℕ) (r : Result (Unit {0}) Stop) → Puts out out' piece r → piece ≡ view_text v s items h.traces → Goes (Some (Tell v p traces)) shelf shelf' out out' (ended r)
     tell_ends out' piece r puts whole =
         let j = joined_so in
-        put_ends (Some (Tell v p traces)) shelf shelf' out out' ((fp ∷ []) ++ j.more) j.agree (Viewed P items (map Has h.traces)) j.understood j.says j.shelf_grows puts.grows out [] piece r puts
+        put_ends _ (Some (Tell v p traces)) shelf shelf' out out' ((fp ∷ []) ++ j.more) j.agree (Viewed P items (map Has h.traces)) j.understood j.says j.shelf_grows puts.grows out [] piece r puts
         (ap (λ (a : Answer). a.end) j.answer) (ap (λ (a : Answer). a.kept) j.answer) (ap (λ (a : Answer). text a) j.answer ∙ sym whole) (known_nothing _) (sink_stays out)

@@ -23,11 +23,13 @@ use Rattle.atac_steps.specs.declared.stop.TraceFault.TheVariants.{NotATrace, Ver
 use Rattle.atac_traces.specs.Files.{Read, Has, Bad, IsFaulty, trace_most}
 use Rattle.atac_traces.specs.Totals.{IsSum}
 use Rattle.atac_traces.proofs.One.{accepts_one, not_faulty}
-use Rattle.atac_top.specs.Programs.{IsAccepted, HasItems, IsProbed, IsRecorded, IsRunMore, program_in, with_probes, not_plain, too_large, not_read, not_probed, Reading, Refuses, Counted, Listed, Runs, Covers, Probes, Viewed, Merges, Records, IsUnderstood, section, met_by, view_text, runs_text}
+use Rattle.atac_programs.specs.Programs.{IsAccepted, HasItems, IsProbed, IsRecorded, program_in, with_probes, not_plain, too_large, not_read, not_probed, section, met_by}
+use Rattle.atac_top.specs.Readings.{IsRunMore, Reading, Refuses, Counted, Listed, Runs, Covers, Probes, Viewed, Merges, Records, Picks, Watches, Sums, IsUnderstood, view_text, runs_text}
 use Rattle.atac_top.specs.Answers.{Answer, asked, names, text, refused, given, next_read, joining, keeping, old_read, old_given, input_most}
-use Rattle.atac_top.specs.Runs.{IsOfGot, IsReadIn, AreRead, AreToldOf, AreMerged, IsOwn, OldIs, IsRunInto, OfTraces, Understands, Keeps}
+use Rattle.atac_top.specs.Runs.{IsOfGot, IsReadIn, AreRead, AreToldOf, AreMerged, IsOwn, OldIs, IsRunInto, OfOthers, Understands, Keeps}
 use Rattle.atac_top.specs.Claims.{IsHeld, Passes, IsRunnable, HoldTraces, HoldsOld, IsFewBytes, KeptUnder}
-use Rattle.atac_top.proofs.Same.{IsSure, got, same_source, not_rejected, not_unlisted, not_unread, one_probed, has_moved}
+use Rattle.atac_programs.proofs.Same.{same_source, not_rejected, not_unlisted, not_unread, one_probed, has_moved}
+use Rattle.atac_top.proofs.Sure.{IsSure, got}
 use Rattle.atac_top.proofs.Asked.{instrument_done, instrument_refused, tell_goes, tell_refused, into_goes}
 use Rattle.atac_top.proofs.Exits.{kept_answer}
 use Rattle.atac_top.proofs.Sums.{keeping_small}
@@ -57,6 +59,9 @@ written_done program out p source (Covers P items) g a fits is = absurd is
 written_done program out p source (Viewed P items reads) g a fits is = absurd is
 written_done program out p source (Merges reads sum) g a fits is = absurd is
 written_done program out p source (Records P old new) g a fits is = absurd is
+written_done program out p source (Picks P items marks) g a fits is = absurd is
+written_done program out p source (Watches P told) g a fits is = absurd is
+written_done program out p source (Sums P items told) g a fits is = absurd is
 
 written_so : (program out : List ℕ) (p : Option (List ℕ)) (source : List ℕ) (u : Reading) → gets program 1048576 p ≡ Gets source → (a : IsAccepted source) → IsUnderstood (Instrument program out) source u → (asked (Some (Instrument program out)) u (p ∷ [])).end ≡ IsDone
     → asked (Some (Instrument program out)) u (p ∷ []) ≡ kept_answer out (text_in (with_probes source (program_in a)).unit) []
@@ -70,6 +75,9 @@ written_so program out p source (Covers P items) g a is done = absurd is
 written_so program out p source (Viewed P items reads) g a is done = absurd is
 written_so program out p source (Merges reads sum) g a is done = absurd is
 written_so program out p source (Records P old new) g a is done = absurd is
+written_so program out p source (Picks P items marks) g a is done = absurd is
+written_so program out p source (Watches P told) g a is done = absurd is
+written_so program out p source (Sums P items told) g a is done = absurd is
 
 pub written_answer : (program out : List ℕ) (says : List ℕ → Said) (found : List (Option (List ℕ))) (u : Reading) → AllAgree says (names (Some (Instrument program out))) found → Understands (Some (Instrument program out)) found u → (p : Passes (says program))
     → (asked (Some (Instrument program out)) u found).end ≡ IsDone → asked (Some (Instrument program out)) u found ≡ kept_answer out (text_in (with_probes p.held.bytes (program_in p.accepted)).unit) []
@@ -116,7 +124,7 @@ module _ (v : View) (program : List ℕ) (traces : List (List ℕ)) (says : List
   abbrev told : ItemLists → List Trace → Answer
   told items all = record { end = IsDone; sections = []; rest = view_text v source items all; kept = None }
 
-  tells_by : (P : Source) (items : ItemLists) (reads : List Read) → OfTraces (Tell v program traces) (p ∷ found) (Viewed P items reads)
+  tells_by : (P : Source) (items : ItemLists) (reads : List Read) → OfOthers (Tell v program traces) (p ∷ found) (Viewed P items reads)
       → (asked (Some (Tell v program traces)) (Viewed P items reads) (p ∷ found) ≡ told items ts) ⊎ ((asked (Some (Tell v program traces)) (Viewed P items reads) (p ∷ found)).end ≡ BadWords)
   tells_by P items reads are = by (joined_by (sha256 source) says traces found reads ts [] (told items) agrees held (subst (λ x. AreToldOf x traces found reads) g are))
     where
@@ -132,7 +140,7 @@ module _ (v : View) (program : List ℕ) (traces : List (List ℕ)) (says : List
 
 pub told_done : (v : View) (program : List ℕ) (traces : List (List ℕ)) (says : List ℕ → Said) (p : Option (List ℕ)) (found : List (Option (List ℕ))) (source : List ℕ) (u : Reading) → gets program 1048576 p ≡ Gets source → AllAgree says traces found
     → (ts : List Trace) → HoldTraces (sha256 source) says traces ts → (a : IsAccepted source) → ((s : Sites) → AreNumbered a.tables.structures (items_of a.tables a.unit) s → AreTooMany a.tables a.unit s → ⊥)
-    → IsUnderstood (Tell v program traces) source u → OfTraces (Tell v program traces) (p ∷ found) u → IsSure (asked (Some (Tell v program traces)) u (p ∷ found)).end
+    → IsUnderstood (Tell v program traces) source u → OfOthers (Tell v program traces) (p ∷ found) u → IsSure (asked (Some (Tell v program traces)) u (p ∷ found)).end
 told_done v program traces says p found source (Refuses said) g agrees ts held a few is are = absurd (not_unlisted source said a few is)
 told_done v program traces says p found source (Viewed P items reads) g agrees ts held a few is are = sure_by v program traces says p found source g agrees ts held P items reads (tells_by v program traces says p found source g agrees ts held P items reads are)
 told_done v program traces says p found source (Counted n) g agrees ts held a few is are = absurd is
@@ -142,6 +150,9 @@ told_done v program traces says p found source (Covers P items) g agrees ts held
 told_done v program traces says p found source (Probes text) g agrees ts held a few is are = absurd is
 told_done v program traces says p found source (Merges reads sum) g agrees ts held a few is are = absurd is
 told_done v program traces says p found source (Records P old new) g agrees ts held a few is are = absurd is
+told_done v program traces says p found source (Picks P items marks) g agrees ts held a few is are = absurd is
+told_done v program traces says p found source (Watches P told) g agrees ts held a few is are = absurd is
+told_done v program traces says p found source (Sums P items told) g agrees ts held a few is are = absurd is
 
 pub record IsTold (v : View) (source : List ℕ) (a : IsAccepted source) (ts : List Trace) (piece : List ℕ) : Type 0 where
   pub items : ItemLists
@@ -149,7 +160,7 @@ pub record IsTold (v : View) (source : List ℕ) (a : IsAccepted source) (ts : L
   pub is : piece ≡ view_text v source items ts
 
 told_so : (v : View) (program : List ℕ) (traces : List (List ℕ)) (says : List ℕ → Said) (p : Option (List ℕ)) (found : List (Option (List ℕ))) (source : List ℕ) (u : Reading) → gets program 1048576 p ≡ Gets source → AllAgree says traces found
-    → (ts : List Trace) → HoldTraces (sha256 source) says traces ts → (a : IsAccepted source) → IsUnderstood (Tell v program traces) source u → OfTraces (Tell v program traces) (p ∷ found) u
+    → (ts : List Trace) → HoldTraces (sha256 source) says traces ts → (a : IsAccepted source) → IsUnderstood (Tell v program traces) source u → OfOthers (Tell v program traces) (p ∷ found) u
     → (asked (Some (Tell v program traces)) u (p ∷ found)).end ≡ IsDone → IsTold v source a ts (text (asked (Some (Tell v program traces)) u (p ∷ found)))
 told_so v program traces says p found source (Refuses said) g agrees ts held a is are done = absurd (not_done _ _ (tell_refused v program traces p found source g said) done (λ e. cc))
 told_so v program traces says p found source (Viewed P items reads) g agrees ts held a is are done = by (tells_by v program traces says p found source g agrees ts held P items reads are)
@@ -165,6 +176,9 @@ told_so v program traces says p found source (Covers P items) g agrees ts held a
 told_so v program traces says p found source (Probes text) g agrees ts held a is are done = absurd is
 told_so v program traces says p found source (Merges reads sum) g agrees ts held a is are done = absurd is
 told_so v program traces says p found source (Records P old new) g agrees ts held a is are done = absurd is
+told_so v program traces says p found source (Picks P items marks) g agrees ts held a is are done = absurd is
+told_so v program traces says p found source (Watches P told) g agrees ts held a is are done = absurd is
+told_so v program traces says p found source (Sums P items told) g agrees ts held a is are done = absurd is
 
 pub told_text : (v : View) (program : List ℕ) (traces : List (List ℕ)) (says : List ℕ → Said) (found : List (Option (List ℕ))) (u : Reading) → AllAgree says (names (Some (Tell v program traces))) found → Understands (Some (Tell v program traces)) found u
     → (asked (Some (Tell v program traces)) u found).end ≡ IsDone → (p : Passes (says program)) (ts : List Trace) → HoldTraces (sha256 p.held.bytes) says traces ts → IsTold v p.held.bytes p.accepted ts (text (asked (Some (Tell v program traces)) u found))
@@ -279,6 +293,9 @@ merged_done out first rest says (f ∷ found) (Covers P items) agrees digest ts 
 merged_done out first rest says (f ∷ found) (Probes text) agrees digest ts held few is = absurd is
 merged_done out first rest says (f ∷ found) (Viewed P items reads) agrees digest ts held few is = absurd is
 merged_done out first rest says (f ∷ found) (Records P old new) agrees digest ts held few is = absurd is
+merged_done out first rest says (f ∷ found) (Picks P items marks) agrees digest ts held few is = absurd is
+merged_done out first rest says (f ∷ found) (Watches P told) agrees digest ts held few is = absurd is
+merged_done out first rest says (f ∷ found) (Sums P items told) agrees digest ts held few is = absurd is
 
 pub merged_answer : (out first : List ℕ) (rest : List (List ℕ)) (says : List ℕ → Said) (found : List (Option (List ℕ))) (u : Reading) → AllAgree says (first ∷ rest) found → Understands (Some (Merge out (first ∷ rest))) found u → (asked (Some (Merge out (first ∷ rest))) u found).end ≡ IsDone
     → (digest : List ℕ) (ts : List Trace) → HoldTraces digest says (first ∷ rest) ts → IsMergedSo out digest ts (asked (Some (Merge out (first ∷ rest))) u found)
@@ -293,6 +310,9 @@ merged_answer out first rest says (f ∷ found) (Covers P items) agrees is done 
 merged_answer out first rest says (f ∷ found) (Probes text) agrees is done digest ts held = absurd is
 merged_answer out first rest says (f ∷ found) (Viewed P items reads) agrees is done digest ts held = absurd is
 merged_answer out first rest says (f ∷ found) (Records P old new) agrees is done digest ts held = absurd is
+merged_answer out first rest says (f ∷ found) (Picks P items marks) agrees is done digest ts held = absurd is
+merged_answer out first rest says (f ∷ found) (Watches P told) agrees is done digest ts held = absurd is
+merged_answer out first rest says (f ∷ found) (Sums P items told) agrees is done digest ts held = absurd is
 
 -- ---- `run` into a trace
 
@@ -387,7 +407,7 @@ ran_so n input trace i t bytes P Q found old (Some m) same h into a done (inl k)
 
 pub into_done : (n : ℕ) (program input trace : List ℕ) (says : List ℕ → Said) (p i t : Option (List ℕ)) (source bytes : List ℕ) (u : Reading) → gets program 67108864 p ≡ Gets source → gets input input_most i ≡ Gets bytes → Agrees (says trace) t
     → (P : Source) → IsProbed source P → (digest : List ℕ) → digest_in P.unit.line ≡ Some digest → (old : Trace) → HoldsOld digest (says trace) old → ((m : Trace) → IsRunMore old m (met_by P n bytes) → IsFewBytes m)
-    → IsUnderstood (RunInto n program input trace) source u → OfTraces (RunInto n program input trace) (p ∷ i ∷ t ∷ []) u → IsSure (asked (Some (RunInto n program input trace)) u (p ∷ i ∷ t ∷ [])).end
+    → IsUnderstood (RunInto n program input trace) source u → OfOthers (RunInto n program input trace) (p ∷ i ∷ t ∷ []) u → IsSure (asked (Some (RunInto n program input trace)) u (p ∷ i ∷ t ∷ [])).end
 into_done n program input trace says p i t source bytes (Refuses said) g h agrees P read digest line old holds few is into = absurd (recorded_of n program input trace source P digest said read line is)
 into_done n program input trace says p i t source bytes (Records Q found new) g h agrees P read digest line old holds few is into =
     ran_sure n input trace i _ bytes P Q found old new (one_probed source P Q read is.read) h into few _ (ran_by n program input trace says p i t source bytes g h agrees P read digest line old holds Q found new is into)
@@ -398,10 +418,13 @@ into_done n program input trace says p i t source bytes (Covers R items) g h agr
 into_done n program input trace says p i t source bytes (Probes text) g h agrees P read digest line old holds few is into = absurd is
 into_done n program input trace says p i t source bytes (Viewed R items reads) g h agrees P read digest line old holds few is into = absurd is
 into_done n program input trace says p i t source bytes (Merges reads sum) g h agrees P read digest line old holds few is into = absurd is
+into_done n program input trace says p i t source bytes (Picks R items marks) g h agrees P read digest line old holds few is into = absurd is
+into_done n program input trace says p i t source bytes (Watches R told) g h agrees P read digest line old holds few is into = absurd is
+into_done n program input trace says p i t source bytes (Sums R items told) g h agrees P read digest line old holds few is into = absurd is
 
 into_so : (n : ℕ) (program input trace : List ℕ) (says : List ℕ → Said) (p i t : Option (List ℕ)) (source bytes : List ℕ) (u : Reading) → gets program 67108864 p ≡ Gets source → gets input input_most i ≡ Gets bytes → Agrees (says trace) t
     → (P : Source) → IsProbed source P → (digest : List ℕ) → digest_in P.unit.line ≡ Some digest → (old : Trace) → HoldsOld digest (says trace) old
-    → IsUnderstood (RunInto n program input trace) source u → OfTraces (RunInto n program input trace) (p ∷ i ∷ t ∷ []) u → (asked (Some (RunInto n program input trace)) u (p ∷ i ∷ t ∷ [])).end ≡ IsDone
+    → IsUnderstood (RunInto n program input trace) source u → OfOthers (RunInto n program input trace) (p ∷ i ∷ t ∷ []) u → (asked (Some (RunInto n program input trace)) u (p ∷ i ∷ t ∷ [])).end ≡ IsDone
     → IsRanSo n input trace P bytes old (asked (Some (RunInto n program input trace)) u (p ∷ i ∷ t ∷ []))
 into_so n program input trace says p i t source bytes (Refuses said) g h agrees P read digest line old holds is into done = absurd (recorded_of n program input trace source P digest said read line is)
 into_so n program input trace says p i t source bytes (Records Q found new) g h agrees P read digest line old holds is into done =
@@ -413,6 +436,9 @@ into_so n program input trace says p i t source bytes (Covers R items) g h agree
 into_so n program input trace says p i t source bytes (Probes text) g h agrees P read digest line old holds is into done = absurd is
 into_so n program input trace says p i t source bytes (Viewed R items reads) g h agrees P read digest line old holds is into done = absurd is
 into_so n program input trace says p i t source bytes (Merges reads sum) g h agrees P read digest line old holds is into done = absurd is
+into_so n program input trace says p i t source bytes (Picks R items marks) g h agrees P read digest line old holds is into done = absurd is
+into_so n program input trace says p i t source bytes (Watches R told) g h agrees P read digest line old holds is into done = absurd is
+into_so n program input trace says p i t source bytes (Sums R items told) g h agrees P read digest line old holds is into done = absurd is
 
 pub into_answer : (n : ℕ) (program input trace : List ℕ) (says : List ℕ → Said) (found : List (Option (List ℕ))) (u : Reading) → AllAgree says (names (Some (RunInto n program input trace))) found → Understands (Some (RunInto n program input trace)) found u
     → (asked (Some (RunInto n program input trace)) u found).end ≡ IsDone → (p : IsRunnable (says program)) (i : IsHeld (says input) input_most) (digest : List ℕ) → digest_in p.program.unit.line ≡ Some digest → (old : Trace) → HoldsOld digest (says trace) old

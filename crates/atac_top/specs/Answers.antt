@@ -1,15 +1,18 @@
 -- What a command answers, by the files that it finds.
-use Rattle.std.specs.Prelude.{ℕ, cond, leb, List, [], ◌∷◌, ◌++◌, length, Option, None, Some}
+use Rattle.std.specs.Prelude.{ℕ, Bool, cond, codes, leb, List, [], ◌∷◌, ◌++◌, length, Option, None, Some}
 use Rattle.c_meaning.specs.Calls.{Source}
-use Rattle.atac_words.specs.Words.{Command, Check, ListItems, Instrument, Cover, Run, RunInto, Merge, Tell, fetched}
-use Rattle.atac_steps.specs.Ends.{End, IsDone, BadWords, NotAccepted, NotHeld, NoTrace}
+use Rattle.atac_words.specs.Words.{Command, Check, ListItems, Instrument, Cover, Run, RunInto, Merge, Tell, Pick, Watch, SelfCover, fetched}
+use Rattle.atac_steps.specs.Ends.{End, IsDone, BadWords, NotAccepted, NotHeld, NoTrace, NotWatched}
 use Rattle.atac_steps.specs.declared.stop.TraceFault.TheVariants.{TooMuch}
 use Rattle.atac_steps.specs.Got.{Got, Gets, Stops, gets}
 use Rattle.atac_base.specs.Items.{ItemLists}
 use Rattle.trace_file.specs.Layout.{bytes_of}
 use Rattle.trace_file.specs.declared.trace.Trace.{Trace}
 use Rattle.atac_traces.specs.Files.{Read, Has, Bad, trace_most}
-use Rattle.atac_top.specs.Programs.{Counts, Reading, Refuses, Counted, Listed, Runs, Covers, Probes, Viewed, Merges, Records, counts_text, section, report, view_text, runs_text}
+use Rattle.run_pick.specs.Lines.{pick_text}
+use Rattle.atac_self.specs.Generation.{program_text, input_bytes}
+use Rattle.atac_programs.specs.Programs.{Counts, counts_text, section, shown, report}
+use Rattle.atac_top.specs.Readings.{Reading, Refuses, Counted, Listed, Runs, Covers, Probes, Viewed, Merges, Records, Picks, Watches, Sums, Saying, Unasked, NoneNamed, Says, made_name, counter_name, view_text, runs_text, summary}
 
 -- An answer: how the call ends, what it puts (whole sections, behind each of which memory may be wanted, and then a rest), and
 -- what it keeps under which name.
@@ -112,6 +115,37 @@ old_given name (Gets bytes) old go = old_read name old go
 old_given name (Stops (NotHeld file)) old go = go
 old_given name (Stops end) old go = refused [] end
 
+-- A program whose runs are picked; the inputs of the names that are left, behind those that were got; and which runs are kept.
+abbrev pub picked_by : List ℕ → Reading → (Source → ItemLists → Option (List Bool) → Answer) → Answer
+picked_by file (Refuses said) go = refused [] (NotAccepted file said)
+picked_by file (Picks P items marks) go = go P items marks
+picked_by file understood go = refused [] BadWords
+
+abbrev pub gathering : List (List ℕ) → List (Option (List ℕ)) → List (List ℕ) → (List (List ℕ) → Answer) → Answer
+gathering [] found got go = go got
+gathering (name ∷ names) [] got go = refused [] BadWords
+gathering (name ∷ names) (f ∷ found) got go = given [] (gets name input_most f) (λ bytes. gathering names found (got ++ bytes ∷ []) go)
+
+abbrev pub marked_by : Option (List Bool) → (List Bool → Answer) → Answer
+marked_by None go = refused [] BadWords
+marked_by (Some marks) go = go marks
+
+-- A program that is watched, or made and watched; and what the watcher of the name says.
+abbrev pub watched_by : List ℕ → Reading → (Source → Saying → Answer) → Answer
+watched_by file (Refuses said) go = refused [] (NotAccepted file said)
+watched_by file (Watches P said) go = go P said
+watched_by file understood go = refused [] BadWords
+
+abbrev pub summed_by : List ℕ → Reading → (Source → ItemLists → Saying → Answer) → Answer
+summed_by file (Refuses said) go = refused [] (NotAccepted file said)
+summed_by file (Sums P items said) go = go P items said
+summed_by file understood go = refused [] BadWords
+
+abbrev pub saying : List ℕ → Saying → (List ℕ → Answer) → Answer
+saying name Unasked go = refused [] BadWords
+saying name NoneNamed go = refused [] (NotWatched name)
+saying name (Says text) go = go text
+
 -- The answer to a command, by what is understood of the program's text and by the bytes under each name that it fetches, in their order.
 abbrev pub answer : Command → Reading → List (Option (List ℕ)) → Answer
 answer (Check program) understood (p ∷ []) =
@@ -147,6 +181,22 @@ answer (Tell view program traces) understood (p ∷ found) =
     told_by program understood (λ items reads.
     joining traces found reads [] (λ ts.
     record { end = IsDone; sections = []; rest = view_text view source items ts; kept = None })))
+answer (Pick limit program inputs) understood (p ∷ found) =
+    given [] (gets program 1048576 p) (λ source.
+    picked_by program understood (λ P items marks.
+    gathering inputs found [] (λ all.
+    marked_by marks (λ kept.
+    record { end = IsDone; sections = []; rest = pick_text kept inputs items (shown P limit all); kept = None }))))
+answer (Watch limit program input name) understood (p ∷ i ∷ []) =
+    given [] (gets program 1048576 p) (λ source.
+    watched_by program understood (λ P said.
+    given [] (gets input input_most i) (λ bytes.
+    saying name said (λ text.
+    record { end = IsDone; sections = []; rest = section input P bytes limit ++ text; kept = None }))))
+answer (SelfCover limit seed) understood [] =
+    summed_by made_name understood (λ P items said.
+    saying counter_name said (λ text.
+    record { end = IsDone; sections = []; rest = summary P items limit (program_text seed) (input_bytes seed) text; kept = None }))
 answer command understood found = refused [] BadWords
 
 -- The same from the words.

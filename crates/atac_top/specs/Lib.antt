@@ -1,7 +1,7 @@
-pub mod Sections
-pub mod Programs
+pub mod Readings
 pub mod Answers
 pub mod Runs
 pub mod Claims
-pub mod Understanding
 pub mod Progress
+pub mod Gathering
+pub mod Watching

@@ -16,7 +16,8 @@ use Rattle.cover_core.specs.Stands.{owners_of}
 use Rattle.cover_law.specs.Covers.{covers}
 use Rattle.atac_words.specs.Words.{Command}
 use Rattle.atac_steps.specs.Ends.{End}
-use Rattle.atac_top.specs.Programs.{Reading, section}
+use Rattle.atac_programs.specs.Programs.{section, with_run}
+use Rattle.atac_top.specs.Readings.{Reading}
 use Rattle.atac_top.specs.Answers.{Answer, input_most, asked, names, joined}
 use Rattle.atac_top.specs.Runs.{Understands}
 use Rattle.atac_steps.specs.Got.{gets, Gets, AllAgree}
@@ -25,10 +26,6 @@ use Rattle.atac_steps.specs.Steps.{FetchStops, PutStops}
 use Rattle.atac_steps.specs.Stops.{end_of}
 use Rattle.atac_steps.specs.declared.stop.Stop.{Stop}
 use Rattle.atac_top.specs.declared.covering.Covering.{Covering}
-
--- with what one more run shows
-abbrev pub with_run : Source → ℕ → List ℕ → (Fact → Bool) → Fact → Bool
-with_run P limit bytes has f = has f || covers (owner_in_program P) (told (run_heard P bytes limit).deeds) f
 
 -- what the code holds while P is covered: a program that does with its probes what P does, the decisions of P's uses, P's items,
 -- and the facts so far

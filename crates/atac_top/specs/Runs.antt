@@ -1,18 +1,23 @@
 -- What a call leaves, by how it ended.
-use Rattle.std.specs.Prelude.{◌≡◌, ◌≢◌, ◌⊎◌, ℕ, ◌-◌, List, [], ◌∷◌, map, take, slice_get, Option, None, Some, IfSome, IsTrue, IsSome}
+use Rattle.std.specs.Prelude.{◌≡◌, ◌≢◌, ◌⊎◌, ◌++◌, find, ℕ, Bool, ◌-◌, List, [], ◌∷◌, map, take, slice_get, Option, None, Some, IfSome, IsTrue, IsSome}
+use Rattle.std.specs.Str.{bytes_eq}
 use Rattle.std.specs.Io.KnownBytes.{append_known}
 use Rattle.atac_base.specs.Outside.{ShelfState, SinkState, Rose, IsFront}
-use Rattle.atac_words.specs.Words.{Command, Merge, Tell, RunInto, program_of, program_most}
+use Rattle.atac_words.specs.Words.{Command, Merge, Tell, RunInto, Pick, Watch, SelfCover, program_of, program_most}
 use Rattle.atac_steps.specs.Ends.{End, IsDone, ReadFailed, WriteFailed, KeepFailed, OutOfMemory, status_of, line_of}
 use Rattle.atac_steps.specs.Got.{Got, Gets, Stops, gets, AllAgree}
 use Rattle.atac_steps.specs.declared.stop.TraceFault.TheVariants.{OtherProgram}
 use Rattle.sha2.specs.Sha256.{sha256}
 use Rattle.c_tree.specs.Programs.{digest_in}
+use Rattle.c_events.specs.declared.events.Event.{Event}
+use Rattle.atac_base.specs.Items.{ItemLists}
+use Rattle.atac_self.specs.Generation.{program_text, input_bytes}
 use Rattle.c_meaning.specs.Calls.{Source}
 use Rattle.trace_file.specs.declared.trace.Trace.{Trace}
 use Rattle.atac_traces.specs.Files.{Read, Has, Bad, IsRead, IsTraceOf, IsFaulty, trace_most}
 use Rattle.atac_traces.specs.Totals.{IsSum}
-use Rattle.atac_top.specs.Programs.{Reading, Viewed, Merges, Records, IsUnderstood, IsRunMore, met_by}
+use Rattle.atac_programs.specs.Programs.{met_by, events, all_events}
+use Rattle.atac_top.specs.Readings.{Reading, Viewed, Merges, Records, Picks, Watches, Sums, Saying, Unasked, NoneNamed, Says, counter_name, IsUnderstood, IsRunMore, IsPicked}
 use Rattle.atac_top.specs.Answers.{Answer, asked, names, joined, text, input_most}
 use Rattle.atac_steps.specs.Grows.{ShelfGrows, SinkGrows}
 use Rattle.atac_steps.specs.declared.status.Status.{Status}
@@ -104,31 +109,47 @@ pub record IsRunInto (limit : ℕ) (P : Source) (i t : Got) (read : Option Read)
   pub is : OldIs digest t read old
   pub more : IfSome new (λ n. (bytes : List ℕ) × (i ≡ Gets bytes) × IsRunMore old n (met_by P limit bytes))
 
+-- The inputs were got, with these bytes.
+abbrev pub AreGot : List (List ℕ) → List (Option (List ℕ)) → List (List ℕ) → Type 0
+AreGot [] [] [] = Unit {0}
+AreGot (name ∷ names) (f ∷ found) (bytes ∷ all) = (gets name input_most f ≡ Gets bytes) × AreGot names found all
+AreGot names found all = ⊥
+
+-- The marks of the runs on them, where there are any.
+abbrev pub ArePicked : ℕ → Source → ItemLists → List (List ℕ) → List (Option (List ℕ)) → Option (List Bool) → Type 0
+ArePicked limit P items inputs found None = Unit {0}
+ArePicked limit P items inputs found (Some marks) = (all : List (List ℕ)) × AreGot inputs found all × IsPicked P items limit all marks
+
 -- What a command understands of its files.
 abbrev pub OfProgram : Command → List (Option (List ℕ)) → Reading → Type 0
 OfProgram command [] understood = Unit {0}
 OfProgram command (p ∷ found) understood = IsOfGot command (gets (program_of command) (program_most command) p) understood
 
-abbrev pub OfTraces : Command → List (Option (List ℕ)) → Reading → Type 0
-OfTraces (Tell view program traces) (p ∷ found) (Viewed P items reads) = AreToldOf (gets program 1048576 p) traces found reads
-OfTraces (RunInto limit program input trace) (p ∷ i ∷ t ∷ []) (Records P old new) = IsRunInto limit P (gets input input_most i) (gets trace trace_most t) old new
-OfTraces command found understood = Unit {0}
+abbrev pub OfOthers : Command → List (Option (List ℕ)) → Reading → Type 0
+OfOthers (Tell view program traces) (p ∷ found) (Viewed P items reads) = AreToldOf (gets program 1048576 p) traces found reads
+OfOthers (RunInto limit program input trace) (p ∷ i ∷ t ∷ []) (Records P old new) = IsRunInto limit P (gets input input_most i) (gets trace trace_most t) old new
+OfOthers (Pick limit program inputs) (p ∷ found) (Picks P items marks) = ArePicked limit P items inputs found marks
+OfOthers command found understood = Unit {0}
 
 abbrev pub UnderstandsAll : Command → List (Option (List ℕ)) → Reading → Type 0
 UnderstandsAll (Merge out traces) found (Merges reads sum) = AreMerged traces found reads sum
 UnderstandsAll (Merge out traces) found understood = ⊥
-UnderstandsAll command found understood = OfProgram command found understood × OfTraces command found understood
+UnderstandsAll (SelfCover limit seed) found understood = IsUnderstood (SelfCover limit seed) (program_text seed) understood
+UnderstandsAll command found understood = OfProgram command found understood × OfOthers command found understood
 
 abbrev pub Understands : Option Command → List (Option (List ℕ)) → Reading → Type 0
 Understands None found understood = Unit {0}
 Understands (Some command) found understood = UnderstandsAll command found understood
 
--- The answer, by what is understood, and what came of it.
-pub record Answers (asked_for : Option Command) (shelf shelf' : ShelfState) (out out' : SinkState) (found : List (Option (List ℕ))) (end : End) (put : List ℕ) : Type 0 where
+-- The answer, by what is understood of what was found, and what came of it.
+pub record AnswersBy (U : List (Option (List ℕ)) → Reading → Type 0) (asked_for : Option Command) (shelf shelf' : ShelfState) (out out' : SinkState) (found : List (Option (List ℕ))) (end : End) (put : List ℕ) : Type 0 where
   pub understood : Reading
-  pub is : Understands asked_for found understood
+  pub is : U found understood
   pub comes : Comes shelf shelf' out out' (names asked_for) (asked asked_for understood found) end put
   pub keeps : Keeps (asked asked_for understood found).kept end shelf shelf'
+
+abbrev pub Answers : Option Command → ShelfState → ShelfState → SinkState → SinkState → List (Option (List ℕ)) → End → List ℕ → Type 0
+Answers asked_for = AnswersBy (Understands asked_for) asked_for
 
 -- The program's text could not be read, or memory was wanted before it was understood: nothing was put or kept.
 abbrev pub Breaks : ShelfState → ShelfState → List (List ℕ) → End → List ℕ → Type 0
@@ -138,18 +159,56 @@ Breaks shelf shelf' files OutOfMemory put = (put ≡ []) × (shelf'.says ≡ she
 Breaks shelf shelf' files end put = ⊥
 
 -- A command's run, up to its end: what was found under the names, and what was put.
-pub record Goes (asked_for : Option Command) (shelf shelf' : ShelfState) (out out' : SinkState) (end : End) : Type 0 where
+pub record GoesBy (U : List (Option (List ℕ)) → Reading → Type 0) (asked_for : Option Command) (shelf shelf' : ShelfState) (out out' : SinkState) (end : End) : Type 0 where
   pub found : List (Option (List ℕ))
   pub put : List ℕ
   pub agrees : AllAgree shelf.says (names asked_for) found
-  pub comes : Breaks shelf shelf' (names asked_for) end put ⊎ Answers asked_for shelf shelf' out out' found end put
+  pub comes : Breaks shelf shelf' (names asked_for) end put ⊎ AnswersBy U asked_for shelf shelf' out out' found end put
   pub bytes : out'.bytes ≡ append_known out.bytes put
   pub shelf_grows : ShelfGrows shelf shelf'
   pub out_grows : SinkGrows out out'
 
+abbrev pub Goes : Option Command → ShelfState → ShelfState → SinkState → SinkState → End → Type 0
+Goes asked_for = GoesBy (Understands asked_for) asked_for
+
+-- The watchers that are handed in: whether none has a name; and what is said under a name, once events are told to the first that has
+-- it: its text of each list of events that it stands for, with these behind.
+pub record Handed : Type 1 where
+  pub none : List ℕ → Type 0
+  pub says : List ℕ → List Event → List ℕ → Type 0
+
+abbrev pub handed : {W : Type 0} → (W → List ℕ) → (W → List Event → Type 0) → (W → List Event → List ℕ) → List W → Handed
+handed {W} called stands text_of ws = record {
+  none = λ name. find (λ w. bytes_eq (called w) name) ws ≡ None;
+  says = λ name log said. (w : W) → find (λ w. bytes_eq (called w) name) ws ≡ Some w → (h : List Event) → stands w h → said ≡ text_of w (h ++ log);
+}
+
+abbrev pub IsSaid : Handed → List ℕ → List Event → Saying → Type 0
+IsSaid ws name log Unasked = Unit {0}
+IsSaid ws name log NoneNamed = ws.none name
+IsSaid ws name log (Says said) = ws.says name log said
+
+-- What was said of a run on an input, where its bytes are got.
+abbrev pub IsSaidOf : Handed → List ℕ → Source → ℕ → Got → Saying → Type 0
+IsSaidOf ws name P limit (Gets bytes) said = IsSaid ws name (events P limit bytes) said
+IsSaidOf ws name P limit (Stops end) said = Unit {0}
+
+-- What a watcher was found to say, where the command asks one.
+abbrev pub Watched : Handed → Option Command → List (Option (List ℕ)) → Reading → Type 0
+Watched ws (Some (Watch limit program input name)) (p ∷ i ∷ []) (Watches P said) = IsSaidOf ws name P limit (gets input input_most i) said
+Watched ws (Some (SelfCover limit seed)) found (Sums P items said) = IsSaid ws counter_name (all_events P limit (input_bytes seed)) said
+Watched ws asked_for found understood = Unit {0}
+
+-- What is understood of the files, and what a watcher was found to say.
+abbrev pub UnderstandsWith : Handed → Option Command → List (Option (List ℕ)) → Reading → Type 0
+UnderstandsWith ws asked_for found understood = Understands asked_for found understood × Watched ws asked_for found understood
+
+abbrev pub GoesWith : Handed → Option Command → ShelfState → ShelfState → SinkState → SinkState → End → Type 0
+GoesWith ws asked_for = GoesBy (UnderstandsWith ws asked_for) asked_for
+
 -- A whole call: the run, its status, and the line.
-pub record Runs (asked_for : Option Command) (shelf shelf' : ShelfState) (out out' err err' : SinkState) (status : Status) : Type 0 where
+pub record Runs (ws : Handed) (asked_for : Option Command) (shelf shelf' : ShelfState) (out out' err err' : SinkState) (status : Status) : Type 0 where
   pub end : End
   pub status_is : status ≡ status_of end
-  pub goes : Goes asked_for shelf shelf' out out' end
+  pub goes : GoesWith ws asked_for shelf shelf' out out' end
   pub tells : Tells err err' (line_of end)

@@ -4,18 +4,21 @@ ghost use Rattle.std.specs.Prelude.{◌≤◌, Some};
 ghost use Rattle.atac_words.specs.Words.{Check, ListItems, Instrument, Run};
 ghost use Rattle.atac_words.specs.Stops.{command_of, IsFew};
 ghost use Rattle.atac_steps.specs.Stops.{ended};
-ghost use Rattle.atac_top.specs.Runs.{Goes};
+ghost use Rattle.atac_top.specs.Runs.{Goes, GoesWith, handed};
 
-use crate::checking::{self, Checking, counts_of};
 use crate::covering::cover;
-use crate::listing::{self, Listing};
-use crate::probing::{Probing, probe};
-use crate::program::{Runnable, read_to_run, section_of};
+use crate::picking::pick;
 use crate::recording::{merge, run_into};
 use crate::telling::tell;
+use crate::watching::{self_cover, watch};
 use atac_base::outside::{Shelf, Sink};
+use atac_programs::checking::{self, Checking, counts_of};
+use atac_programs::listing::{self, Listing};
+use atac_programs::probing::{Probing, probe};
+use atac_programs::program::{Runnable, read_to_run, section_of};
 use atac_steps::{Stop, fetch, keep, put};
 use atac_words::Asked;
+use probe_watch::Watcher;
 use std::alloc::Global;
 
 /// The most bytes of a program.
@@ -110,11 +113,12 @@ fn run<'a, S: Shelf, W: Sink>(
 pub fn carry_out<'a, S: Shelf, W: Sink>(
     alloc: Global,
     asked: Asked<'a>,
+    watchers: Vec<Box<dyn Watcher>>,
     shelf: &mut S,
     out: &mut W,
 ) -> Result<(), Stop<'a>>
     requires { IsFew asked }
-    ensures { Goes (Some (command_of asked.entry)) (S.state shelf.old) (S.state shelf.new)
+    ensures { GoesWith (handed (λ w. called w) (λ w. stands_for w) (λ w. text_of w) watchers.items) (Some (command_of asked.entry)) (S.state shelf.old) (S.state shelf.new)
         (W.state out.old) (W.state out.new) (ended result) }
 {
     match asked {
@@ -128,5 +132,10 @@ pub fn carry_out<'a, S: Shelf, W: Sink>(
         }
         Asked::Merge(kept, traces) => merge(alloc, kept, traces, shelf, out),
         Asked::Tell(view, program, traces) => tell(alloc, view, program, traces, shelf, out),
+        Asked::Pick(limit, program, inputs) => pick(alloc, limit, program, inputs, shelf, out),
+        Asked::Watch(limit, program, input, name) => {
+            watch(alloc, limit, program, input, name, watchers, shelf, out)
+        }
+        Asked::SelfCover(limit, seed) => self_cover(alloc, limit, seed, watchers, out),
     }
 }

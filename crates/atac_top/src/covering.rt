@@ -1,28 +1,29 @@
 //! Runs of a program on one input after the other, with what they cover.
 
-ghost use Rattle.std.specs.Prelude.{◌≡◌, ◌≤◌, ℕ, Bool, false, List, Some, IfOk, map, string_bytes};
+ghost use Rattle.std.specs.Prelude.{◌≡◌, ◌≤◌, ◌++◌, ℕ, Bool, false, List, Some, IfOk, OnOk, map, string_bytes};
 ghost use Rattle.c_meaning.specs.Calls.{Source};
 ghost use Rattle.atac_facts.specs.declared.fact.Fact.{Fact};
 ghost use Rattle.atac_base.specs.Items.{ItemLists};
-ghost use Rattle.cover_report.specs.Texts.{report_text};
+ghost use Rattle.cover_report.specs.Texts.{report_text, totals_text};
+ghost use Rattle.probe_watch.specs.Logs.{bytes_in};
 ghost use Rattle.atac_words.specs.Words.{Cover};
 ghost use Rattle.atac_steps.specs.Stops.{ended};
 ghost use Rattle.atac_top.specs.Runs.{Goes};
-ghost use Rattle.atac_top.specs.Programs.{section};
-ghost use Rattle.atac_top.specs.Understanding.{Holds};
-ghost use Rattle.atac_top.specs.Progress.{Stands, with_run, SectionGoes};
+ghost use Rattle.atac_programs.specs.Programs.{section, shown, with_run};
+ghost use Rattle.atac_programs.specs.Understanding.{Holds};
+ghost use Rattle.atac_top.specs.Progress.{Stands, SectionGoes};
 
-use crate::program::{Reading, Understood, understand};
-use crate::sections::section_of_run;
 use atac_base::facts::{Facts, union_into};
 use atac_base::items::Items;
 use atac_base::outside::{Shelf, Sink};
+use atac_programs::program::{Reading, Understood, understand};
+use atac_programs::sections::section_of_run;
 use atac_steps::{Stop, fetch, put};
 use c_base::place::NoMemory;
 use c_machine::run;
 use c_tree::program::Program;
 use cover_core::collector::Collector;
-use cover_report::report;
+use cover_report::{report, totals};
 use std::alloc::Global;
 
 /// The most bytes of a program.
@@ -43,8 +44,8 @@ pub struct Covering {
 }
 
 impl Covering {
-    // No run yet.
-    fn new(alloc: Global, understood: Understood) -> Covering
+    /// No run yet.
+    pub fn new(alloc: Global, understood: Understood) -> Covering
         ensures { (P : Source) → Holds P understood → Stands P understood.items (λ f. false) result }
     {
         Covering {
@@ -83,6 +84,34 @@ impl Covering {
         let bytes = fetch(self.alloc, shelf, input, INPUT_MOST)?;
         let section = self.run_on(limit, input, bytes.as_slice())?;
         put(out, section.as_slice())
+    }
+
+    /// Runs the program on each input.
+    pub fn run_on_all(&mut self, limit: u64, inputs: &[Vec<u8>]) -> Result<(), NoMemory>
+        requires { limit ≤ 100000000 }
+        ensures { OnOk result ((P : Source) (items : ItemLists) (got : List (List ℕ)) → Stands P items (shown P limit got) self.old → Stands P items (shown P limit (got ++ map bytes_in inputs.now)) self.new) }
+    {
+        let Some((first, rest)) = inputs.split_first() else {
+            return Ok(());
+        };
+        self.run_on(limit, "", first.as_slice())?;
+        self.run_on_all(limit, rest)?;
+        Ok(())
+    }
+
+    /// The program with its probes.
+    pub fn probed(&self) -> &Program
+        ensures { result.now ≡ self.now.probed }
+    {
+        &self.probed
+    }
+
+    /// The totals of what the runs so far cover.
+    pub fn totals(&self) -> Result<Vec<u8>, NoMemory>
+        ensures { IfOk result (λ text. (P : Source) (items : ItemLists) (has : Fact → Bool) → Stands P items has self.now → text.items ≡ totals_text items has) }
+    {
+        let text = totals(self.alloc, &self.items, &self.facts)?;
+        Ok(text)
     }
 
     // The report of what the runs so far cover.

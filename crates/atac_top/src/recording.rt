@@ -4,21 +4,18 @@ ghost use Rattle.std.specs.Prelude.{◌≡◌, ◌≤◌, ◌<◌, length, map, 
 ghost use Rattle.c_meaning.specs.Sources.{source_of};
 ghost use Rattle.atac_words.specs.Words.{RunInto, Merge};
 ghost use Rattle.atac_steps.specs.Stops.{ended};
-ghost use Rattle.atac_top.specs.Programs.{section, runs_text, met_by, IsRunMore};
+ghost use Rattle.atac_programs.specs.Programs.{section, met_by};
+ghost use Rattle.atac_top.specs.Readings.{runs_text, IsRunMore, begun};
 ghost use Rattle.atac_top.specs.Runs.{Goes};
-ghost use Rattle.atac_top.specs.Understanding.{RecordAs, HasOwners, begun};
+ghost use Rattle.atac_programs.specs.Understanding.{HasOwners};
 
-use crate::checking::said;
-use crate::program::{Runnable, read_to_run};
-use crate::sections::section_of_run;
 use atac_base::outside::{Shelf, Sink};
+use atac_programs::recordable::{Recordable, Recording, read_to_record};
+use atac_programs::sections::section_of_run;
 use atac_steps::{Stop, fetch, keep, put};
 use atac_traces::{fetch_any, fetch_old, join, no_runs, spelled};
-use c_base::place::{NoMemory, Pos};
-use c_events::owners::Owners;
+use c_base::place::NoMemory;
 use c_machine::run;
-use c_sites_probes::owners::probe_owners;
-use c_tree::program::Program;
 use cover_core::collector::Collector;
 use std::alloc::Global;
 use trace_file::{Trace, add_run};
@@ -28,45 +25,6 @@ const PROBED_MOST: u64 = 67_108_864;
 
 /// The most bytes of an input.
 const INPUT_MOST: u64 = 16_777_216;
-
-/// The number of the refusal of a program without a program line, which is said of its first place.
-const NOT_PROBED: u8 = 53;
-
-/// A program whose runs go into a trace: the digest in its program line, and the owners of its use probes.
-#[derive(Drop)]
-pub struct Recordable {
-    pub program: Program,
-    pub owners: Owners,
-    pub digest: [u8; 32],
-}
-
-/// What a text is read as that is to be run into a trace.
-#[derive(Drop)]
-pub enum Recording {
-    Refuses(String),
-    Records(Recordable),
-}
-
-// Reads the text of a program that is to be run into a trace: why it is none, or the program.
-fn read_to_record(alloc: Global, text: &[u8]) -> Result<Recording, NoMemory>
-    requires { length text.now ≤ 67108864 }
-    ensures { IfOk result (RecordAs text.now) }
-{
-    let program = match read_to_run(alloc, text)? {
-        Runnable::Refuses(said) => return Ok(Recording::Refuses(said)),
-        Runnable::Runs(program) => program,
-    };
-    let Some(digest) = program.digest() else {
-        let place = Pos { line: 1, col: 1 };
-        return Ok(Recording::Refuses(said(alloc, NOT_PROBED, place)?));
-    };
-    let owners = probe_owners(alloc, &program)?;
-    Ok(Recording::Records(Recordable {
-        program,
-        owners,
-        digest,
-    }))
-}
 
 // Runs the program on the input, adds the run to the trace, and makes its section.
 fn record(

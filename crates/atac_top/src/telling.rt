@@ -1,17 +1,21 @@
-//! What is told of traces: the report, the source with what is uncovered, and the numbers of runs.
+//! What is told of traces: the report, the source with what is uncovered, the numbers of runs, and the report as JSON.
 
-ghost use Rattle.std.specs.Prelude.{◌≡◌, ℕ, List, map, string_bytes, Some, IfOk};
+ghost use Rattle.serde_json.specs.Written.{compact_text};
+ghost use Rattle.atac_facts.specs.Sets.{holds};
+ghost use Rattle.json_out.specs.Json.{json_of};
+ghost use Rattle.std.specs.Prelude.{◌≡◌, ◌++◌, ◌∷◌, [], ℕ, List, map, string_bytes, Some, IfOk};
 ghost use Rattle.trace_file.specs.declared.trace.Trace.{Trace};
 ghost use Rattle.atac_words.specs.Words.{Tell};
 ghost use Rattle.atac_steps.specs.Stops.{ended};
 ghost use Rattle.atac_traces.specs.Totals.{IsSum};
-ghost use Rattle.atac_top.specs.Programs.{view_text};
+ghost use Rattle.atac_top.specs.Readings.{view_text};
 ghost use Rattle.atac_top.specs.Runs.{Goes};
 
-use crate::listing::{Itemising, itemise};
-use crate::probing::digest_of;
+use atac_base::facts::Facts;
 use atac_base::items::Items;
 use atac_base::outside::{Shelf, Sink};
+use atac_programs::listing::{Itemising, itemise};
+use atac_programs::probing::digest_of;
 use atac_steps::{Stop, fetch, put};
 use atac_traces::{join, no_runs};
 use atac_words::View;
@@ -19,11 +23,21 @@ use c_base::place::NoMemory;
 use cover_hits::hits;
 use cover_report::report;
 use cover_show::show;
+use json_out::json_text;
 use std::alloc::Global;
 use trace_file::Trace;
 
 /// The most bytes of a program.
 const PROGRAM_MOST: u64 = 1_048_576;
+
+// A line of JSON.
+fn json_line(alloc: Global, items: &Items, facts: &Facts) -> Result<Vec<u8>, NoMemory>
+    ensures { IfOk result (λ text. text.items ≡ compact_text (json_of items.now (holds facts.now)) ++ 10 ∷ []) }
+{
+    let mut text = json_text(alloc, items, facts)?;
+    text.push(b'\n')?;
+    Ok(text)
+}
 
 // What is told of the sum of traces of a program with this text and these items.
 fn view_of(
@@ -39,6 +53,7 @@ fn view_of(
         View::Report => report(alloc, items, sum.tally.facts()),
         View::Show => show(alloc, text, items, sum.tally.facts()),
         View::Hits => hits(alloc, items, &sum.tally, sum.old_runs == 0),
+        View::Json => json_line(alloc, items, sum.tally.facts()),
     }
 }
 

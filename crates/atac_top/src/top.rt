@@ -2,12 +2,12 @@
 
 ghost use Rattle.std.specs.Prelude.{◌≡◌, ◌⊎◌, ◌↔◌, ◌++◌, ℕ, List, Option, IsTrue, map, string_bytes, Some, None, IfSome};
 ghost use Rattle.atac_base.specs.Outside.{Rose};
-ghost use Rattle.atac_top.specs.Programs.{IsAccepted, program_in};
+ghost use Rattle.atac_programs.specs.Programs.{IsAccepted, program_in};
 ghost use Rattle.atac_words.specs.Words.{reads};
 ghost use Rattle.atac_steps.specs.Ends.{line_of, file_of, said_of};
 ghost use Rattle.atac_steps.specs.Stops.{end_of};
-ghost use Rattle.atac_top.specs.Runs.{Runs, Tells};
-ghost use Rattle.atac_top.specs.Claims.{Supposes, Shows, NoFault};
+ghost use Rattle.atac_top.specs.Runs.{Runs, Tells, handed};
+ghost use Rattle.atac_top.specs.Claims.{Supposes, IsWatched, Shows, NoFault};
 ghost use Rattle.c_events.specs.declared.events.Event.{Event};
 ghost use Rattle.atac_facts.specs.declared.fact.Fact.{Fact};
 ghost use Rattle.cover_parts.specs.Covered.{Covered};
@@ -17,6 +17,7 @@ use crate::commands::carry_out;
 use atac_base::outside::{PutErr, Shelf, Sink};
 use atac_steps::{Status, Stop, fetch, put};
 use atac_words::read_words;
+use probe_watch::Watcher;
 use std::alloc::Global;
 
 /// Puts the line of a stop. It takes no memory, so it puts the line piece by piece.
@@ -50,7 +51,14 @@ fn put_four<E: Sink>(err: &mut E, a: &[u8], b: &[u8], c: &[u8], d: &[u8]) -> Res
 /// `run [-t N] P INPUT TRACE` does what `run` does, for a P with a program line, and keeps under TRACE what it held, a trace of
 /// this program or nothing, with this run. `merge OUT TRACE1 .. TRACEn` puts the number of runs of the traces, which are of one
 /// program, and keeps their sum under OUT. `report`, `show` and `hits P TRACE1 .. TRACEn` put what is told of P's items by the
-/// sum of traces of P. There are 1 to 1,000 traces, each at most 67,108,864 bytes. What is kept is kept as the last step.
+/// sum of traces of P; `json P TRACE1 .. TRACEn` the report as JSON. There are 1 to 1,000 traces, each at most 67,108,864 bytes. What is
+/// kept is kept as the last step.
+///
+/// `pick [-t N] P INPUT1 .. INPUTn` refuses P as `list` does, runs it on each input, and then puts which of these runs to keep so that
+/// the others cover nothing besides, and the totals. `watch [-t N] P INPUT NAME`, with at most 2,000,000 turns, refuses P as `check`
+/// does, tells the first of the watchers with that name the events of P's run on INPUT, and puts the section of the run and what the
+/// watcher says. `self [-t N] SEED` makes a program and three inputs from the number SEED of 64 bits, covers them, tells the watcher
+/// `blocks` of these runs, and puts a summary. No other watcher is told anything, and all are dropped.
 ///
 /// All other words are no command. An operand doesn't begin with `-`; an empty one is a name like another.
 ///
@@ -62,10 +70,11 @@ pub fn atac<S: Shelf, W: Sink, E: Sink>(
     shelf: &mut S,
     out: &mut W,
     err: &mut E,
+    watchers: Vec<Box<dyn Watcher>>,
 ) -> Status
     // The whole call: the answer to the words by what is found under their names, or a fault or want of memory
-    // in its place; what was put by then; what the shelf says now; and the line.
-    ensures runs { Runs (reads (map string_bytes words.now.items)) (S.state shelf.old) (S.state shelf.new)
+    // in its place; what was put by then; what the shelf says now; what the watcher said, where one was told; and the line.
+    ensures runs { Runs (handed (λ w. called w) (λ w. stands_for w) (λ w. text_of w) watchers.items) (reads (map string_bytes words.now.items)) (S.state shelf.old) (S.state shelf.new)
         (W.state out.old) (W.state out.new) (E.state err.old) (E.state err.new) result }
 
     // Usage comes exactly where the words aren't read.
@@ -80,7 +89,7 @@ pub fn atac<S: Shelf, W: Sink, E: Sink>(
     // of its items, each pair exactly where some walk of a function has it; the sections of its own runs, as the meaning of the
     // language has them, and the report of what these show; what is told of traces; the text with probes; the new trace.
     ensures headline { result ≡ Status.Done → IfSome (reads (map string_bytes words.now.items)) (λ command.
-        Shows command (S.state shelf.old) (S.state shelf.new) (W.state out.old) (W.state out.new)) }
+        Shows (handed (λ w. called w) (λ w. stands_for w) (λ w. text_of w) watchers.items) command (S.state shelf.old) (S.state shelf.new) (W.state out.old) (W.state out.new)) }
 
     // A text is one program at most.
     ensures one_program { (source : List ℕ) (a b : IsAccepted source) → program_in b ≡ program_in a }
@@ -88,9 +97,11 @@ pub fn atac<S: Shelf, W: Sink, E: Sink>(
     // A block, an outcome, a pair or a p-use is shown exactly where positions of the run's events show it.
     ensures covered { (owner : ℕ → Option ℕ) (events : List Event) (fact : Fact) → IsTrue (covers owner events fact) ↔ Covered owner events fact }
 
-    // Where the files are held, the program is understood and no count of faults rose, the call is done, or memory was wanted.
+    // Where the files are held, the program is understood, the watcher is there and no count of faults rose, the call is done, or
+    // memory was wanted.
     ensures complete { IfSome (reads (map string_bytes words.now.items)) (λ command.
         Supposes command (S.state shelf.old).says
+        → IsWatched (handed (λ w. called w) (λ w. stands_for w) (λ w. text_of w) watchers.items) command
         → NoFault (S.state shelf.old) (S.state shelf.new) (W.state out.old) (W.state out.new)
         → (result ≡ Status.Done) ⊎ (result ≡ Status.NoMemory)) }
 {
@@ -98,7 +109,7 @@ pub fn atac<S: Shelf, W: Sink, E: Sink>(
         let _ = put_four(err, b"atac: ", b"", b"bad usage", b"\n");
         return Status::Usage;
     };
-    match carry_out(alloc, asked, shelf, out) {
+    match carry_out(alloc, asked, watchers, shelf, out) {
         Ok(()) => Status::Done,
         Err(stop) => {
             tell(err, &stop);

@@ -1,7 +1,7 @@
 //! The words of a call, and what they ask for.
 
 ghost use Rattle.std.specs.Prelude.{◌≡◌, ◌≤◌, [], ◌∷◌, ℕ, List, map, drop, string_bytes, option_map, IfSome, ◌<◌, length};
-ghost use Rattle.atac_words.specs.Words.{is_operand, are_operands, limit_of, operand_list, check_words, list_words, instrument_words, run_words, cover_words, merge_words, tell_words, turns_first, reads};
+ghost use Rattle.atac_words.specs.Words.{pick_words, watch_words, watched_words, one_operand, seed_of, self_words, is_operand, are_operands, number_in, limit_of, operand_list, check_words, list_words, instrument_words, run_words, cover_words, merge_words, tell_words, turns_first, reads, more_words};
 ghost use Rattle.atac_words.specs.Stops.{command_of, IsFew, turns_of};
 
 /// The most turns of a run, where the words don't say.
@@ -10,21 +10,26 @@ const TURN_LIMIT: u64 = 1_000_000;
 /// The most that they may say.
 const TURNS_MOST: u64 = 100_000_000;
 
+/// The most that they may say where a watcher is told of the run.
+const WATCHED_MOST: u64 = 2_000_000;
+
 /// The most inputs or traces of one call.
 const OTHERS_MOST: usize = 1_000;
 
-/// What is told of traces: the report, the source with what is uncovered, or the number of runs of each item.
+/// What is told of traces: the report, the source with what is uncovered, the number of runs of each item, or the report as JSON.
 #[derive(Clone, Copy, Debug, PartialEq, Eq)]
 pub enum View {
     Report,
     Show,
     Hits,
+    Json,
 }
 
 /// What the words ask for: a program is checked; its items are listed; it is kept with its probes under another name; it is
 /// run on inputs, one after the other, each within so many turns, and what this covers is reported; it is run on one input,
 /// and no more; it is run so, and the run is added to the trace under a name; the sum of traces is kept under the name in
-/// front of theirs; or what traces say of a program is told.
+/// front of theirs; what traces say of a program is told; it is run on inputs, and which of these runs to keep is said; it is
+/// run on one input, and what a watcher says of this is said; or a program and inputs are made from a number and covered.
 #[derive(Clone, Copy, Debug)]
 pub enum Asked<'a> {
     Check(&'a str),
@@ -35,6 +40,9 @@ pub enum Asked<'a> {
     RunInto(u64, &'a str, &'a str, &'a str),
     Merge(&'a str, &'a [String]),
     Tell(View, &'a str, &'a [String]),
+    Pick(u64, &'a str, &'a [String]),
+    Watch(u64, &'a str, &'a str, &'a str),
+    SelfCover(u64, u64),
 }
 
 fn may_be_operand(word: &str) -> bool
@@ -46,22 +54,22 @@ fn may_be_operand(word: &str) -> bool
     }
 }
 
-/// A number of turns, from 1 to 100,000,000, in decimal with no zero in front.
+/// A number from 1 to `most`, in decimal with no zero in front.
 #[tactic(auto, using(crate::proofs::Limits::empty_none, crate::proofs::Limits::plus_none, crate::proofs::Limits::zero_none))]
-fn limit_of(word: &str) -> Option<u64>
-    ensures limit { result ≡ limit_of word.now }
-    ensures few { IfSome result (λ n. n ≤ 100000000) }
+fn number_in(most: u64, word: &str) -> Option<u64>
+    ensures number { result ≡ number_in most word.now }
+    ensures few { IfSome result (λ n. n ≤ most) }
 {
     let bytes = word.as_bytes();
     if bytes.len() == 0 || bytes[0] == b'+' || bytes[0] == b'0' {
         return None;
     }
     match word.parse::<u64>() {
-        Ok(turns) => {
-            if turns > TURNS_MOST {
+        Ok(number) => {
+            if number > most {
                 return None;
             }
-            Some(turns)
+            Some(number)
         }
         Err(_) => None,
     }
@@ -103,6 +111,29 @@ pub fn read_words(words: &Vec<String>) -> Option<Asked<'_>>
     if word == "hits" {
         return asks_tell(View::Hits, words);
     }
+    if word == "json" {
+        return asks_tell(View::Json, words);
+    }
+    asks_more(word, words)
+}
+
+// Reads the words of the other commands that run a program.
+fn asks_more<'a>(word: &str, words: &'a [String]) -> Option<Asked<'a>>
+    ensures command { option_map command_of result ≡ more_words word.now (map string_bytes words.now) }
+    ensures few { IfSome result IsFew }
+{
+    if word == "pick" {
+        let turns = turns_first(words)?;
+        return asks_pick(turns.limit, turns.words);
+    }
+    if word == "watch" {
+        let turns = turns_first(words)?;
+        return asks_watch(turns.limit, turns.words);
+    }
+    if word == "self" {
+        let turns = turns_first(words)?;
+        return asks_self(turns.limit, turns.words);
+    }
     None
 }
 
@@ -131,7 +162,7 @@ fn turns_first(words: &[String]) -> Option<Turns<'_>>
     if option.as_str() != "-t" {
         return Some(all);
     }
-    let limit = limit_of(turns.as_str())?;
+    let limit = number_in(TURNS_MOST, turns.as_str())?;
     Some(Turns {
         limit,
         words: operands,
@@ -220,6 +251,73 @@ fn asks_tell(view: View, words: &[String]) -> Option<Asked<'_>>
 {
     let (program, traces) = one_and_others(words)?;
     Some(Asked::Tell(view, program, traces))
+}
+
+fn asks_pick(limit: u64, words: &[String]) -> Option<Asked<'_>>
+    requires { limit ≤ 100000000 }
+    ensures command { option_map command_of result ≡ pick_words limit (map string_bytes words.now) }
+    ensures few { IfSome result IsFew }
+{
+    let (program, inputs) = one_and_others(words)?;
+    Some(Asked::Pick(limit, program, inputs))
+}
+
+fn asks_watch(limit: u64, words: &[String]) -> Option<Asked<'_>>
+    ensures command { option_map command_of result ≡ watch_words limit (map string_bytes words.now) }
+    ensures few { IfSome result IsFew }
+{
+    if limit > WATCHED_MOST {
+        return None;
+    }
+    asks_watched(limit, words)
+}
+
+fn asks_watched(limit: u64, words: &[String]) -> Option<Asked<'_>>
+    requires { limit ≤ 2000000 }
+    ensures command { option_map command_of result ≡ watched_words limit (map string_bytes words.now) }
+    ensures few { IfSome result IsFew }
+{
+    let (program, rest) = words.split_first()?;
+    let (input, rest) = rest.split_first()?;
+    if !(may_be_operand(program.as_str()) && may_be_operand(input.as_str())) {
+        return None;
+    }
+    let name = one_operand(rest)?;
+    Some(Asked::Watch(limit, program.as_str(), input.as_str(), name))
+}
+
+// The one word, where it may be an operand.
+fn one_operand(words: &[String]) -> Option<&str>
+    ensures { option_map (λ w. w.now) result ≡ one_operand (map string_bytes words.now) }
+{
+    let (word, rest) = words.split_first()?;
+    if !rest.is_empty() || !may_be_operand(word.as_str()) {
+        return None;
+    }
+    Some(word.as_str())
+}
+
+/// Zero, or a number of 64 bits, in decimal with no zero in front.
+fn seed_of(word: &str) -> Option<u64>
+    ensures { result ≡ seed_of word.now }
+{
+    if word == "0" {
+        return Some(0);
+    }
+    number_in(u64::MAX, word)
+}
+
+fn asks_self(limit: u64, words: &[String]) -> Option<Asked<'_>>
+    requires { limit ≤ 100000000 }
+    ensures command { option_map command_of result ≡ self_words limit (map string_bytes words.now) }
+    ensures few { IfSome result IsFew }
+{
+    let (seed, rest) = words.split_first()?;
+    if !rest.is_empty() {
+        return None;
+    }
+    let seed = seed_of(seed.as_str())?;
+    Some(Asked::SelfCover(limit, seed))
 }
 
 // One operand, and those behind it, 1 to 1,000.

@@ -5,6 +5,7 @@
 use atac_base::memory::{MemoryShelf, MemorySink};
 use atac_base::outside::Shelf;
 use atac_top::top::atac;
+use probe_watch::{BlockCounter, EventLister, Watcher};
 use std::alloc::{AllocError, Global};
 use std::io;
 
@@ -42,6 +43,14 @@ fn shown(alloc: Global, bytes: &[u8]) -> Result<String, AllocError> {
     Ok(text)
 }
 
+// The watchers `events` and `blocks`.
+fn watchers(alloc: Global) -> Result<Vec<Box<dyn Watcher>>, AllocError> {
+    let mut watchers: Vec<Box<dyn Watcher>> = Vec::new(alloc);
+    watchers.push(Box::new(alloc, EventLister::new(alloc))?)?;
+    watchers.push(Box::new(alloc, BlockCounter::new(alloc))?)?;
+    Ok(watchers)
+}
+
 // What a row prints.
 fn answer(alloc: Global, row: &str) -> Result<String, AllocError> {
     let (words, rest) = row.split_once('\t').unwrap_or((row, ""));
@@ -52,7 +61,14 @@ fn answer(alloc: Global, row: &str) -> Result<String, AllocError> {
     let _ = shelf.keep("e", bytes_of(alloc, input)?.as_slice());
     let mut out = MemorySink::new(alloc, Vec::new(alloc));
     let mut err = MemorySink::new(alloc, Vec::new(alloc));
-    let status = atac(alloc, &words, &mut shelf, &mut out, &mut err);
+    let status = atac(
+        alloc,
+        &words,
+        &mut shelf,
+        &mut out,
+        &mut err,
+        watchers(alloc)?,
+    );
     let put = shown(alloc, out.bytes())?;
     let said = shown(alloc, err.bytes())?;
     format!(in alloc; "{}\t{}\t{}", status.code(), put, said)

@@ -3,10 +3,11 @@ use Rattle.std.proofs.Common.{refl, ◌∙◌, Some, ◌∷◌, [], ◌++◌, ma
 use Rattle.std.specs.Prelude.{string_bytes}
 use Rattle.std.proofs.lemmas.Result.{err_from_is_err_and}
 use Rattle.atac_words.specs.Words.{Cover}
-use Rattle.atac_top.specs.Programs.{Refuses, program_in, section, shown}
+use Rattle.atac_programs.specs.Programs.{program_in, section, shown}
+use Rattle.atac_top.specs.Readings.{Refuses}
 use Rattle.atac_top.proofs.Asked.{cover_stopped_first, cover_understands, cover_refused}
 use Rattle.atac_top.proofs.Exits.{wants_at_once, program_stops, not_accepted, known_nothing}
-use Rattle.atac_top.proofs.Reading.{read_refused, read_given}
+use Rattle.atac_programs.proofs.Reading.{read_refused, read_given}
 use Rattle.atac_top.proofs.Course.{guesses, guesses_agree, came_first, came_on, came_stops, came_by, came_wants, came_ends, left_cons, left_none}
 use Rattle.atac_top.proofs.Inputs.{stands_on}
 use Rattle.atac_steps.proofs.Growing.{sink_stays}
@@ -18,7 +19,7 @@ returns-in_err-source g c =
     let f = c.in_err-source.ensures in
     let says = (g.S.Shelf.state c.args.shelf.now).says in
     let inputs = map string_bytes c.args.inputs.now in
-    rw (p.1, p.2) (program_stops (Some (Cover _ _ _)) _ _ _ f.found (guesses says inputs) (f.agrees, guesses_agree says inputs) f.says f.grows
+    rw (p.1, p.2) (program_stops _ (Some (Cover _ _ _)) _ _ _ f.found (guesses says inputs) (f.agrees, guesses_agree says inputs) f.says f.grows
     _ 1048576 _ f.gives refl (λ h. cover_stopped_first c.args.limit c.args.program.now inputs f.found (guesses says inputs) _ h))
 
 pub returns-in_err-said : goal.returns-in_err-said
@@ -27,7 +28,7 @@ returns-in_err-said g c =
     let f = c.in_ok-source.ensures in
     let says = (g.S.Shelf.state c.args.shelf.now).says in
     let inputs = map string_bytes c.args.inputs.now in
-    rw (p.1, p.2) (wants_at_once (Some (Cover _ _ _)) _ _ _ f.found (guesses says inputs) (f.agrees, guesses_agree says inputs) f.says f.grows)
+    rw (p.1, p.2) (wants_at_once _ (Some (Cover _ _ _)) _ _ _ f.found (guesses says inputs) (f.agrees, guesses_agree says inputs) f.says f.grows)
 
 pub returns-in-Refuses : goal.returns-in-Refuses
 returns-in-Refuses g c =
@@ -35,7 +36,7 @@ returns-in-Refuses g c =
     let says = (g.S.Shelf.state c.args.shelf.now).says in
     let inputs = map string_bytes c.args.inputs.now in
     let is = read_refused _ c.in-Refuses.said _ _ c.in-Refuses.is c.as_slice.ensures.value c.in_ok-said.ensures in
-    not_accepted (Some (Cover _ _ _)) _ _ _ _ (f.found ∷ guesses says inputs) (f.agrees, guesses_agree says inputs) (Refuses _) (cover_understands c.args.limit c.args.program.now inputs f.found (guesses says inputs) _ f.gives (Refuses _) is) f.says f.grows (sink_stays _)
+    not_accepted _ (Some (Cover _ _ _)) _ _ _ _ (f.found ∷ guesses says inputs) (f.agrees, guesses_agree says inputs) (Refuses _) (cover_understands c.args.limit c.args.program.now inputs f.found (guesses says inputs) _ f.gives (Refuses _) is) f.says f.grows (sink_stays _)
     _ _ (cover_refused c.args.limit c.args.program.now inputs f.found (guesses says inputs) _ f.gives _) (known_nothing _)
 
 pub loop-input-init : goal.loop-input-init

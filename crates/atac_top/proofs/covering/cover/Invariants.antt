@@ -3,7 +3,8 @@ use Rattle.std.specs.Prelude.{string_bytes}
 use Rattle.c_meaning.specs.Calls.{Source}
 use Rattle.atac_words.specs.Words.{Cover}
 use Rattle.atac_base.specs.Items.{ItemLists}
-use Rattle.atac_top.specs.Programs.{Covers, shown}
+use Rattle.atac_programs.specs.Programs.{shown}
+use Rattle.atac_top.specs.Readings.{Covers}
 use Rattle.atac_top.specs.Answers.{covering}
 use Rattle.atac_top.specs.Progress.{Stands, Came}
 use Rattle.atac_top.proofs.covering.cover.Given as goal

@@ -6,8 +6,8 @@ use Rattle.atac_facts.specs.Tallies.{count_of}
 use Rattle.c_meaning.specs.Sources.{source_of}
 use Rattle.c_meaning.specs.Runs.{Outcome}
 use Rattle.cover_law.specs.Covers.{covers}
-use Rattle.atac_top.specs.Programs.{owner_in_probed}
-use Rattle.atac_top.proofs.Running.{collected_by}
+use Rattle.atac_programs.specs.Programs.{owner_in_probed}
+use Rattle.atac_programs.proofs.Running.{collected_by}
 use Rattle.atac_top.proofs.recording.record.Goals as goal
 
 pub returns-clause-more : goal.returns-clause-more

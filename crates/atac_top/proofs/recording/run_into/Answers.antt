@@ -7,11 +7,12 @@ use Rattle.trace_file.specs.declared.trace.Trace.{Trace}
 use Rattle.atac_words.specs.Words.{RunInto}
 use Rattle.atac_steps.proofs.Found.{guess, guess_agrees}
 use Rattle.atac_steps.proofs.Growing.{sink_stays, shelf_goes_on}
-use Rattle.atac_top.specs.Programs.{Refuses, IsRunMore, section, met_by}
+use Rattle.atac_programs.specs.Programs.{section, met_by}
+use Rattle.atac_top.specs.Readings.{Refuses, IsRunMore}
 use Rattle.atac_top.proofs.Asked.{into_stopped, into_not, into_refused}
 use Rattle.atac_top.proofs.Exits.{wants_at_once, program_stops, not_accepted, known_nothing}
 use Rattle.atac_top.proofs.Into.{input_stops, trace_stops, into_wants, spell_stops, into_breaks, into_ends, old_of}
-use Rattle.atac_top.proofs.Reading.{record_refused, recordable}
+use Rattle.atac_programs.proofs.Reading.{record_refused, recordable}
 use Rattle.atac_top.proofs.recording.run_into.Goals as goal
 
 pub returns-in_err-source : goal.returns-in_err-source
@@ -19,7 +20,7 @@ returns-in_err-source g c =
     let p = err_from_is_err_and c.from_residual.result c.from_residual.ensures.1 in
     let f = c.in_err-source.ensures in
     let says = (g.S.Shelf.state c.args.shelf.now).says in
-    rw (p.1, p.2) (program_stops (Some (RunInto _ _ _ _)) _ _ _ f.found (guess (says c.args.input.now) ∷ guess (says c.args.trace.now) ∷ []) (f.agrees, (guess_agrees (says c.args.input.now), (guess_agrees (says c.args.trace.now), tt))) f.says f.grows
+    rw (p.1, p.2) (program_stops _ (Some (RunInto _ _ _ _)) _ _ _ f.found (guess (says c.args.input.now) ∷ guess (says c.args.trace.now) ∷ []) (f.agrees, (guess_agrees (says c.args.input.now), (guess_agrees (says c.args.trace.now), tt))) f.says f.grows
     _ 67108864 _ f.gives refl (λ h. into_stopped c.args.limit c.args.program.now c.args.input.now c.args.trace.now f.found (guess (says c.args.input.now)) (guess (says c.args.trace.now)) _ h))
 
 pub returns-in_err-said : goal.returns-in_err-said
@@ -27,14 +28,14 @@ returns-in_err-said g c =
     let p = err_from_is_err_and c.from_residual-in_err-said.result c.from_residual-in_err-said.ensures.1 in
     let f = c.in_ok-source.ensures in
     let says = (g.S.Shelf.state c.args.shelf.now).says in
-    rw (p.1, p.2) (wants_at_once (Some (RunInto _ _ _ _)) _ _ _ f.found (guess (says c.args.input.now) ∷ guess (says c.args.trace.now) ∷ []) (f.agrees, (guess_agrees (says c.args.input.now), (guess_agrees (says c.args.trace.now), tt))) f.says f.grows)
+    rw (p.1, p.2) (wants_at_once _ (Some (RunInto _ _ _ _)) _ _ _ f.found (guess (says c.args.input.now) ∷ guess (says c.args.trace.now) ∷ []) (f.agrees, (guess_agrees (says c.args.input.now), (guess_agrees (says c.args.trace.now), tt))) f.says f.grows)
 
 pub returns-in-Refuses : goal.returns-in-Refuses
 returns-in-Refuses g c =
     let f = c.in_ok-source.ensures in
     let says = (g.S.Shelf.state c.args.shelf.now).says in
     let is = record_refused _ c.in-Refuses.said _ _ c.in-Refuses.is c.as_slice.ensures.value c.in_ok-said.ensures in
-    not_accepted (Some (RunInto _ _ _ _)) _ _ _ _ (f.found ∷ guess (says c.args.input.now) ∷ guess (says c.args.trace.now) ∷ []) (f.agrees, (guess_agrees (says c.args.input.now), (guess_agrees (says c.args.trace.now), tt))) (Refuses _)
+    not_accepted _ (Some (RunInto _ _ _ _)) _ _ _ _ (f.found ∷ guess (says c.args.input.now) ∷ guess (says c.args.trace.now) ∷ []) (f.agrees, (guess_agrees (says c.args.input.now), (guess_agrees (says c.args.trace.now), tt))) (Refuses _)
     (into_not c.args.limit c.args.program.now c.args.input.now c.args.trace.now f.found (guess (says c.args.input.now)) (guess (says c.args.trace.now)) _ f.gives _ is) f.says f.grows (sink_stays _)
     _ _ (into_refused c.args.limit c.args.program.now c.args.input.now c.args.trace.now f.found (guess (says c.args.input.now)) (guess (says c.args.trace.now)) _ f.gives _) (known_nothing _)
 

@@ -6,13 +6,14 @@ use Rattle.sha2.specs.Sha256.{sha256}
 use Rattle.trace_file.specs.declared.trace.Trace.{Trace}
 use Rattle.atac_words.specs.Words.{Tell}
 use Rattle.atac_steps.proofs.Growing.{sink_stays}
-use Rattle.atac_top.specs.Programs.{Refuses, IsCovered, program_in, view_text}
+use Rattle.atac_programs.specs.Programs.{IsCovered, program_in}
+use Rattle.atac_top.specs.Readings.{Refuses, view_text}
 use Rattle.atac_top.proofs.Asked.{tell_stopped, tell_not, tell_refused}
 use Rattle.atac_top.proofs.Course.{guesses, guesses_agree}
 use Rattle.atac_top.proofs.Exits.{wants_at_once, program_stops, not_accepted, known_nothing}
 use Rattle.atac_top.proofs.Told.{tell_stops, tell_wants, tell_ends}
 use Rattle.atac_top.proofs.Sums.{sum_of}
-use Rattle.atac_top.proofs.Reading.{itemise_refused, itemise_given}
+use Rattle.atac_programs.proofs.Reading.{itemise_refused, itemise_given}
 use Rattle.atac_top.proofs.telling.tell.Goals as goal
 
 pub returns-in_err-source : goal.returns-in_err-source
@@ -21,7 +22,7 @@ returns-in_err-source g c =
     let f = c.in_err-source.ensures in
     let says = (g.S.Shelf.state c.args.shelf.now).says in
     let traces = map string_bytes c.args.traces.now in
-    rw (p.1, p.2) (program_stops (Some (Tell _ _ _)) _ _ _ f.found (guesses says traces) (f.agrees, guesses_agree says traces) f.says f.grows
+    rw (p.1, p.2) (program_stops _ (Some (Tell _ _ _)) _ _ _ f.found (guesses says traces) (f.agrees, guesses_agree says traces) f.says f.grows
     _ 1048576 _ f.gives refl (λ h. tell_stopped c.args.view c.args.program.now traces f.found (guesses says traces) _ h))
 
 pub returns-in_err-said : goal.returns-in_err-said
@@ -30,7 +31,7 @@ returns-in_err-said g c =
     let f = c.in_ok-source.ensures in
     let says = (g.S.Shelf.state c.args.shelf.now).says in
     let traces = map string_bytes c.args.traces.now in
-    rw (p.1, p.2) (wants_at_once (Some (Tell _ _ _)) _ _ _ f.found (guesses says traces) (f.agrees, guesses_agree says traces) f.says f.grows)
+    rw (p.1, p.2) (wants_at_once _ (Some (Tell _ _ _)) _ _ _ f.found (guesses says traces) (f.agrees, guesses_agree says traces) f.says f.grows)
 
 pub returns-in-Refuses : goal.returns-in-Refuses
 returns-in-Refuses g c =
@@ -38,7 +39,7 @@ returns-in-Refuses g c =
     let says = (g.S.Shelf.state c.args.shelf.now).says in
     let traces = map string_bytes c.args.traces.now in
     let is = itemise_refused _ c.in-Refuses.said _ _ c.in-Refuses.is c.as_slice.ensures.value c.in_ok-said.ensures in
-    not_accepted (Some (Tell _ _ _)) _ _ _ _ (f.found ∷ guesses says traces) (f.agrees, guesses_agree says traces) (Refuses _) (tell_not c.args.view c.args.program.now traces f.found (guesses says traces) _ f.gives _ is) f.says f.grows (sink_stays _)
+    not_accepted _ (Some (Tell _ _ _)) _ _ _ _ (f.found ∷ guesses says traces) (f.agrees, guesses_agree says traces) (Refuses _) (tell_not c.args.view c.args.program.now traces f.found (guesses says traces) _ f.gives _ is) f.says f.grows (sink_stays _)
     _ _ (tell_refused c.args.view c.args.program.now traces f.found (guesses says traces) _ f.gives _) (known_nothing _)
 
 -- the program's items are understood, and its digest is that of its text

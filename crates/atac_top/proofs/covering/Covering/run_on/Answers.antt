@@ -6,7 +6,7 @@ use Rattle.atac_facts.specs.Sets.{holds}
 use Rattle.c_meaning.specs.Sources.{source_of}
 use Rattle.probe_laws.specs.Owners.{owner_in_program}
 use Rattle.cover_law.specs.Covers.{covers}
-use Rattle.atac_top.proofs.Running.{same_section, same_log, collected}
+use Rattle.atac_programs.proofs.Running.{same_section, same_log, collected}
 use Rattle.atac_top.proofs.covering.Covering.run_on.Goals as goal
 
 pub returns-clause-section : goal.returns-clause-section

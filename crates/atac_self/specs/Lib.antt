@@ -1,0 +1,4 @@
+pub mod Draws
+pub mod Generation
+pub mod Inputs
+pub mod Summary

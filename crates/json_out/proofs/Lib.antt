@@ -1,0 +1,5 @@
+pub mod Objects
+pub mod Lists
+pub mod Determined
+pub mod Compact
+pub mod Worked

@@ -1,0 +1,8 @@
+use Rattle.std.proofs.Common.{drop}
+use Rattle.atac_facts.specs.Sets.{holds}
+use Rattle.json_out.specs.Json.{each_json, p_use_json}
+use Rattle.json_out.proofs.Lists.{Ends}
+use Rattle.json_out.proofs.whole.send_p_uses.Given as goal
+
+abbrev pub invariant-loop-i : goal.invariant-loop-i
+invariant-loop-i g l = Ends (each_json (p_use_json (holds l.covered.facts.now) l.covered.items.now.names) (drop l.i l.covered.items.now.p_uses)) (each_json (p_use_json (holds l.covered.facts.now) l.covered.items.now.names) l.covered.items.now.p_uses) (g.S.Serializer.written l.initial.out) (g.S.Serializer.written l.out)
