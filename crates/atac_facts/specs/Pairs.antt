@@ -1,5 +1,5 @@
 -- Pairs of a key and a value, in the order of their keys.
-use Rattle.std.specs.Prelude.{◌≡◌, ◌≢◌, ℕ, ◌<◌, ◌≤◌, ◌==◌, cond, List, [], ◌∷◌, length, Option, Some, None}
+use Rattle.std.specs.Prelude.{◌≡◌, ◌≢◌, ◌⊎◌, ℕ, ◌<◌, ◌≤◌, ◌==◌, cond, List, [], ◌∷◌, length, Option, Some, None}
 use Rattle.std.proofs.Math.ListN.{get_or}
 
 abbrev pub Pairs : Type 0
@@ -31,3 +31,7 @@ pub record IsGapFor (words : Pairs) (key at : ℕ) : Type 0 where
 pub record SetsOnly (old new : Pairs) (key value : ℕ) : Type 0 where
   pub this_key : get new key ≡ Some value
   pub other_keys : (other : ℕ) → other ≢ key → get new other ≡ get old other
+
+-- the first pair of one of both lists, and what is left of each
+abbrev pub IsTaken : Pairs → Pairs → ℕ × ℕ → Pairs → Pairs → Type 0
+IsTaken a b word rest_a rest_b = ((a ≡ word ∷ rest_a) × (b ≡ rest_b)) ⊎ ((a ≡ rest_a) × (b ≡ word ∷ rest_b))

@@ -1,11 +1,11 @@
 //! Sets of facts, as words of 64 bits.
 
-ghost use Rattle.std.specs.Prelude.{◌≡◌, ◌≢◌, ◌<◌, ◌≤◌, ◌+◌, ◌*◌, ◌^◌, ℕ, true, false, length, OnOk, OnErr, IfOk, IfErr, IsOk, IfSome, IfNone, IsTrue, ◌||◌};
+ghost use Rattle.std.specs.Prelude.{◌≡◌, ◌≢◌, ◌<◌, ◌≤◌, ◌+◌, ◌*◌, ◌^◌, ℕ, [], true, false, length, OnOk, OnErr, IfOk, IfErr, IsOk, IfSome, IfNone, IsTrue, ◌||◌};
 ghost use Rattle.std.specs.Int.{bit_at};
 ghost use Rattle.atac_facts.specs.Facts.{key_of, place_of, fits, rank, IsKey};
 ghost use Rattle.atac_facts.specs.declared.fact.Fact.{Fact};
 ghost use Rattle.atac_facts.specs.Sets.{FactSet, holds, HasBit, IsLeastBit, IsLeastFrom, IsLeast, IsAfter, IsNext, word_at, start_of, Joins};
-ghost use Rattle.atac_facts.specs.Pairs.{IsAt, IsGapFor};
+ghost use Rattle.atac_facts.specs.Pairs.{IsAt, IsGapFor, IsTaken};
 
 use crate::fact::Fact;
 use c_base::place::NoMemory;
@@ -147,17 +147,52 @@ impl Facts {
     }
 }
 
-/// Adds all facts of a set. Where memory is wanted, `into` has its old facts and perhaps some of `from`.
+// The word with the lesser key of both lists' first, and what is left of each. Of equal keys the first list's comes first.
+fn first_word<'a>(
+    a: &'a [(u64, u64)],
+    b: &'a [(u64, u64)],
+) -> Option<((u64, u64), &'a [(u64, u64)], &'a [(u64, u64)])>
+    ensures some { IfSome result (λ x. IsTaken a.now b.now x.0 x.1.now x.2.now) }
+    ensures shorter { IfSome result (λ x. length x.1.now + length x.2.now < length a.now + length b.now) }
+    ensures none { IfNone result ((a.now ≡ []) × (b.now ≡ [])) }
+{
+    match (a.split_first(), b.split_first()) {
+        (None, None) => None,
+        (Some((p, rest)), None) => Some((*p, rest, b)),
+        (None, Some((q, rest))) => Some((*q, a, rest)),
+        (Some((p, rest_a)), Some((q, rest_b))) => {
+            if q.0 < p.0 {
+                return Some((*q, a, rest_b));
+            }
+            Some((*p, rest_a, b))
+        }
+    }
+}
+
+// The facts of both sets. Words come in the order of their keys, so each is joined at the end.
+fn union(alloc: Global, a: &Facts, b: &Facts) -> Result<Facts, NoMemory>
+    ensures { IfOk result (λ both. (fact : Fact) → holds both fact ≡ (holds a.now fact || holds b.now fact)) }
+{
+    let mut both = Facts {
+        words: Vec::new(alloc),
+    };
+    let mut rest_a = a.words.as_slice();
+    let mut rest_b = b.words.as_slice();
+    while let Some(((key, bits), next_a, next_b)) = first_word(rest_a, rest_b) {
+        both.join_word(key, bits)?;
+        rest_a = next_a;
+        rest_b = next_b;
+    }
+    Ok(both)
+}
+
+/// Adds all facts of a set. Where memory is wanted, `into` has its old facts.
 pub fn union_into(into: &mut Facts, from: &Facts) -> Result<(), NoMemory>
     ensures ok { OnOk result ((fact : Fact) → holds into.new fact ≡ (holds into.old fact || holds from.now fact)) }
-    ensures kept { (fact : Fact) → IsTrue (holds into.old fact) → IsTrue (holds into.new fact) }
-    ensures no_more { (fact : Fact) → IsTrue (holds into.new fact) → IsTrue (holds into.old fact || holds from.now fact) }
+    ensures err { OnErr result (into.new ≡ into.old) }
 {
-    let words = from.words.as_slice();
-    for i in 0..words.len() {
-        let (key, bits) = words[i];
-        into.join_word(key, bits)?;
-    }
+    let both = union(*into.words.allocator(), into, from)?;
+    *into = both;
     Ok(())
 }
 
