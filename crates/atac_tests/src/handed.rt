@@ -22,7 +22,7 @@ struct Hostile {
 }
 
 impl Watcher for Hostile {
-    ghost use Rattle.std.specs.Prelude.{[], ⊥, codes};
+    ghost use Rattle.std.specs.Prelude.{[], codes};
 
     ghost stands_for = { λ w h. ⊥ };
 
@@ -56,7 +56,7 @@ struct Sum {
 }
 
 impl Watcher for Sum {
-    ghost use Rattle.std.specs.Prelude.{[], ⊥, codes};
+    ghost use Rattle.std.specs.Prelude.{[], codes};
 
     ghost stands_for = { λ w h. ⊥ };
 

@@ -43,14 +43,6 @@ fn shown(alloc: Global, bytes: &[u8]) -> Result<String, AllocError> {
     Ok(text)
 }
 
-// The watchers `events` and `blocks`.
-fn watchers(alloc: Global) -> Result<Vec<Box<dyn Watcher>>, AllocError> {
-    let mut watchers: Vec<Box<dyn Watcher>> = Vec::new(alloc);
-    watchers.push(Box::new(alloc, EventLister::new(alloc))?)?;
-    watchers.push(Box::new(alloc, BlockCounter::new(alloc))?)?;
-    Ok(watchers)
-}
-
 // What a row prints.
 fn answer(alloc: Global, row: &str) -> Result<String, AllocError> {
     let (words, rest) = row.split_once('\t').unwrap_or((row, ""));
@@ -61,14 +53,10 @@ fn answer(alloc: Global, row: &str) -> Result<String, AllocError> {
     let _ = shelf.keep("e", bytes_of(alloc, input)?.as_slice());
     let mut out = MemorySink::new(alloc, Vec::new(alloc));
     let mut err = MemorySink::new(alloc, Vec::new(alloc));
-    let status = atac(
-        alloc,
-        &words,
-        &mut shelf,
-        &mut out,
-        &mut err,
-        watchers(alloc)?,
-    );
+    let mut watchers: Vec<Box<dyn Watcher>> = Vec::new(alloc);
+    watchers.push(Box::new(alloc, EventLister::new(alloc))?)?;
+    watchers.push(Box::new(alloc, BlockCounter::new(alloc))?)?;
+    let status = atac(alloc, &words, &mut shelf, &mut out, &mut err, watchers);
     let put = shown(alloc, out.bytes())?;
     let said = shown(alloc, err.bytes())?;
     format!(in alloc; "{}\t{}\t{}", status.code(), put, said)
