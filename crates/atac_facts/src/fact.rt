@@ -1,6 +1,6 @@
 //! What a run shows.
 
-ghost use Rattle.std.specs.Prelude.{◌≡◌, ◌<◌, ◌≤◌, ◌+◌, ◌*◌, nat_lt, true};
+ghost use Rattle.std.specs.Prelude.{◌≡◌, ◌<◌, ◌≤◌, ◌+◌, ◌*◌, ◌^◌, nat_lt, true};
 ghost use Rattle.atac_facts.specs.Facts.{key_of, place_of, rank, fits};
 
 /// What a run shows: a block entered, an outcome of a decision taken, a definition used,
@@ -54,12 +54,36 @@ impl Fact {
         self.key() as u128 * 64 + self.place() as u128
     }
 
+    // The number of its kind.
+    fn kind(self) -> u8
+        ensures least { result * 2 ^ 64 ≤ rank self }
+        ensures below { rank self < (result + 1) * 2 ^ 64 }
+    {
+        match self {
+            Fact::Block(_) => 0,
+            Fact::Outcome(_, _) => 1,
+            Fact::Pair(_, _) => 2,
+            Fact::PUse(_, _, _) => 3,
+        }
+    }
+
     /// Whether it stands before another fact, by kind and then by the numbers in order.
     pub fn is_before(self, other: Fact) -> bool
         ensures { result ≡ nat_lt (rank self) (rank other) }
     {
-        let key = self.key();
-        let other_key = other.key();
-        key < other_key || key == other_key && self.place() < other.place()
+        match (self, other) {
+            (Fact::Block(a), Fact::Block(b)) => a < b,
+            (Fact::Outcome(a, m), Fact::Outcome(b, n)) => {
+                (a as u64) * (1 << 32) + (m as u64) < (b as u64) * (1 << 32) + (n as u64)
+            }
+            (Fact::Pair(a, m), Fact::Pair(b, n)) => {
+                (a as u32) * (1 << 16) + (m as u32) < (b as u32) * (1 << 16) + (n as u32)
+            }
+            (Fact::PUse(a, m, o), Fact::PUse(b, n, p)) => {
+                (a as u64) * (1 << 48) + (m as u64) * (1 << 32) + (o as u64)
+                    < (b as u64) * (1 << 48) + (n as u64) * (1 << 32) + (p as u64)
+            }
+            (one, another) => one.kind() < another.kind(),
+        }
     }
 }
