@@ -78,6 +78,16 @@ impl Tally {
         }
     }
 
+    /// Makes room for so many facts behind the others.
+    pub fn room(&mut self, n: u32) -> Result<(), NoMemory>
+        ensures { self.new ≡ self.old }
+    {
+        match self.rows.reserve(n as usize) {
+            Ok(()) => Ok(()),
+            Err(_) => Err(NoMemory),
+        }
+    }
+
     /// Adds to a fact's count, stopping at 4,294,967,295.
     pub fn add(&mut self, fact: Fact, by: u32) -> Result<(), NoMemory>
         requires { 1 ≤ by }

@@ -80,6 +80,7 @@ fn four_parts(counted: bool, bytes: &[u8]) -> Option<Parts<'_>>
     })
 }
 
+#[inline(always)]
 fn row(counted: bool, kind: Kind, bytes: &[u8]) -> Counted
     requires { size counted kind ≤ length bytes.now }
     ensures { result ≡ row_at counted kind bytes.now }
@@ -117,6 +118,7 @@ fn is_number(n: u16) -> bool
     1 <= n && n <= 16383
 }
 
+#[inline(always)]
 fn is_sound(row: Counted) -> bool
     ensures { IsTrue result ↔ SoundRow row }
 {
@@ -131,6 +133,8 @@ fn is_sound(row: Counted) -> bool
     }
 }
 
+// (Each of its calls is of one kind, by which it is then made.)
+#[inline(always)]
 fn read_rows(
     tally: &mut Tally,
     counted: bool,
@@ -144,6 +148,7 @@ fn read_rows(
 {
     let size = kind.size(counted);
     let mut rest = part.records;
+    tally.room(part.count)?;
     for _ in 0..part.count {
         let row = row(counted, kind, rest);
         if !is_sound(row) {
