@@ -132,4 +132,4 @@ module _ (t : TablesShape) (c : Around) where
       let there = emit_if b (act (Block (next_block w))) (stmt_goes t c a j (then_goes (items_go t c (splits a) rest u x) x)) in
       case_there d o m after labels (nat_le (suc m) (case_count labels)) refl there (from_case (suc m - case_count labels) (splits a) rest u x) (at_cases t c d (o + case_count labels) (splits a) rest u x k) (at_cases t c d (o + case_count labels) (splits a) rest u x k) (λ v p. p)
       (λ le. subst (λ (n : ℕ). In (emit (act (Test d ((o + case_count labels) + (m - case_count labels)))) (from_case n (splits a) rest u x)) (at_cases t c d (o + case_count labels) (splits a) rest u x k)) (omega (arith, le))
-          (case_in d (o + case_count labels) (m - case_count labels) (splits a) rest u x k (omega (arith, le, lt))))
+      (case_in d (o + case_count labels) (m - case_count labels) (splits a) rest u x k (omega (arith, le, lt))))

@@ -174,8 +174,8 @@ module _ (P : Source) (F : List Bound) (kn : Knot) where
           → (let u = walk_stmt P.tables c a (with_block_if b (pos_of_stmt a) w) in (x : Exits) → NilExits x → (s : State) → Adds P F (items_go P.tables c (splits a) rest u x) s (items_flow P.tables kn here (splits a) rest (heard c u) s) (exit x))
           → (x : Exits) → NilExits x → (s : State)
           → (let u = walk_stmt P.tables c a (with_block_if b (pos_of_stmt a) w) in
-              Adds P F (emit_if b (act (Block (next_block w))) (stmt_goes P.tables c a (with_block_if b (pos_of_stmt a) w) (then_goes (items_go P.tables c (splits a) rest u x) x))) s
-              (then_do (flow P.tables kn b a (heard c w) s) (after_one (items_flow P.tables kn here (splits a) rest (heard c u)))) (exit x))
+          Adds P F (emit_if b (act (Block (next_block w))) (stmt_goes P.tables c a (with_block_if b (pos_of_stmt a) w) (then_goes (items_go P.tables c (splits a) rest u x) x))) s
+          (then_do (flow P.tables kn b a (heard c w) s) (after_one (items_flow P.tables kn here (splits a) rest (heard c u)))) (exit x))
       reached_adds b a rest c w fl more x h s =
           let u = walk_stmt P.tables c a (with_block_if b (pos_of_stmt a) w) in
           let k = items_go P.tables c (splits a) rest u x in
@@ -219,8 +219,8 @@ module _ (P : Source) (F : List Bound) (kn : Knot) where
           let nil : rest [] = at_cases_nil P.tables c items d 1 false j (in_switch x) (emit _ _) tt in
           adds_then P F _ s _ _ _ _ (adds_wanted P F _ s _ rest nil (value_of e o (inside c w) (with_decision (pos_of e) (cases (case_values k items)) w) rest nil s))
           (λ v s. subst (λ (n : ℕ). Adds P F (at_cases P.tables c d 1 false items j (in_switch x) (emit (act (Test d (suc n))) (walks.at_default P.tables c false items j (in_switch x)))) s
-              (then_do (items_flow P.tables kn (chosen_entry e items v) false items (heard c j) (noted_outcome (heard c w) (case_number e items v) s)) out_of_switch) (exit x)) same
-              (chosen_adds c items w j (case_number e items v) (length (case_constants k items)) (nat_le (case_number e items v) (length (case_constants k items))) refl (chosen_within k v (case_constants k items)) (all_constants k items) from back x h s))
+          (then_do (items_flow P.tables kn (chosen_entry e items v) false items (heard c j) (noted_outcome (heard c w) (case_number e items v) s)) out_of_switch) (exit x)) same
+          (chosen_adds c items w j (case_number e items v) (length (case_constants k items)) (nat_le (case_number e items v) (length (case_constants k items))) refl (chosen_within k v (case_constants k items)) (all_constants k items) from back x h s))
 
       mutual
         pub flow_adds : (b : Bool) (a : StmtShape) (c : Around) (w : Walked) → IsOrderlyStmt P.tables F c a (with_block_if b (pos_of_stmt a) w) → Flows c b a w

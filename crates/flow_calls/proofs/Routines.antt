@@ -101,7 +101,8 @@ module _ (P : Source) (F : List Bound) where
   whole_by : (f : ℕ) (s t : State) (j : Comes) → In j (Goes P.tables P.unit f) → Ok P F s → Onward P F j (begun P F f s) t (emit leave ends) → Kept P F true s [] (left t) × (activations (left t).calls ≡ activations s.calls)
   whole_by f s t j g o h = (
     kept_left P F true s t [] (call_kept P F true f s t h.acts h.met o h.kept h.reads (g (h.met ++ leave ∷ []) (h.on (leave ∷ []) (refl, tt)))),
-    back_activations tail_of t.calls (suc s.last) (activations s.calls) h.calls)
+    back_activations tail_of t.calls (suc s.last) (activations s.calls) h.calls,
+  )
 
   cut_by : (f : ℕ) (s t : State) (j : Comes) → In j (Goes P.tables P.unit f) → Ok P F s → Onward P F j (begun P F f s) t ends → Kept P F false s [] t
   cut_by f s t j g o h = call_kept P F false f s t h.acts h.met o (kept_cut P F (begun P F f s) t h.acts h.kept) h.reads (g (h.met ++ []) (h.on [] tt))
