@@ -1,0 +1,12 @@
+pub mod Own
+pub mod Nils
+pub mod Adding
+pub mod Parts
+pub mod Nodes
+pub mod Declarations
+pub mod Cases
+pub mod Flows
+pub mod Early
+pub mod Routines
+pub mod Laws
+mod Worked

@@ -1,0 +1,4 @@
+//! Laws of runs: each call of a run is a walk of its function.
+#![tactic(auto)]
+
+pub mod calls;
