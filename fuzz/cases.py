@@ -59,8 +59,8 @@ def play_text(case, shared):
             case.keeps(ran, "q")
         if ran.status == 4 and ran.words[0] == "cover":
             hold(ran.err == b"atac: e: absent\n" and ran.out == b"", "no absent input")
-        elif draw.random() < 0.9:
-            return
+    if draw.random() < (0.95 if ran.status else 0.7):
+        return
     case.put("e", draw.choice(shared["inputs"]))
     if draw.random() < 0.1:
         case.put("e", texts.damage_bytes(draw, case.files["e"]))

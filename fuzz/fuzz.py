@@ -1,12 +1,13 @@
 #!/usr/bin/env python3
 """Plays random texts, texts with probes, traces and words through the built program, and looks for answers that no document allows.
 
-    fuzz/fuzz.py ATAC [--seed N] [--cases N] [--first N] [--workers N] [--found FOLDER]
+    fuzz/fuzz.py ATAC [--seed N] [--cases N] [--first N] [--workers N] [--seconds N] [--found FOLDER]
     fuzz/fuzz.py ATAC --seed N --again CASE      plays one case again and prints its calls
+    fuzz/fuzz.py ATAC --rows ROWS ..             texts alone, one call each, many in one process: ROWS is the program of rows_commands
 
 A case depends on the seed and its number alone. Each has 20 processor seconds and 1 GiB a call. What is wrong is kept under FOLDER
-(default: fuzz-found) as a folder with the case's files and its words. Prints what was played by command, status and number. Ends with
-1 where something was found.
+(default: fuzz-found) as a folder with the case's files and its words. Prints what was played by command, status and number. No case is
+begun after --seconds. Ends with 1 where something was found. tools/quick_build.py builds both programs.
 """
 import argparse
 import collections
@@ -21,6 +22,7 @@ sys.dont_write_bytecode = True
 
 import cases
 import play
+import rows
 
 
 def keep_found(folder, seed, number, case, what):
@@ -35,24 +37,49 @@ def keep_found(folder, seed, number, case, what):
         file.write(f"{case.kind}: {what}\n" + "".join(f"{list(given)}\n" for given in case.calls))
 
 
+def play_cases(given, player, shared, numbers, until):
+    """Plays the cases of these numbers. Returns what was seen, the greatest memory by command, and how many are wrong."""
+    seen, most, found = collections.Counter(), collections.Counter(), 0
+    for number in numbers:
+        if time.monotonic() > until:
+            break
+        case, what = cases.play(player, shared, given.seed, number)
+        seen["kind", case.kind] += 1
+        for command, status, refusal, memory in case.seen:
+            seen["call", command, status, refusal] += 1
+            most[command] = max(most[command], memory)
+        if what:
+            found += 1
+            keep_found(given.found, given.seed, number, case, what)
+            print(f"case {number}, {case.kind}: {what}: {list(case.calls[-1])}", flush=True)
+    return seen, most, found
+
+
+def play_texts(given, shared, numbers, until):
+    """The same of texts alone, in batches."""
+    wrong = []
+
+    def tell(number, row, what):
+        wrong.append(number)
+        with open(os.path.join(given.found, f"{given.seed}-row-{number}"), "wb") as file:
+            file.write(row.line())
+        print(f"row {number}: {what}: {row.given}", flush=True)
+
+    seen = rows.work(given.rows, given.seed, numbers, shared, tell, until)
+    seen["kind", "text"] = sum(seen.values())
+    return seen, {}, len(wrong)
+
+
 def work(given, first, step, report):
     """Plays every `step`th case, and writes what was seen of them."""
+    until = time.monotonic() + given.seconds
     play.limit_self()
     room = tempfile.mkdtemp(dir="/dev/shm" if os.path.isdir("/dev/shm") else None)
-    seen, most, found = collections.Counter(), collections.Counter(), 0
     try:
         player = play.Player(given.atac, room)
         shared = cases.gathered(player)
-        for number in range(first, given.first + given.cases, step):
-            case, what = cases.play(player, shared, given.seed, number)
-            seen["kind", case.kind] += 1
-            for command, status, refusal, memory in case.seen:
-                seen["call", command, status, refusal] += 1
-                most[command] = max(most[command], memory)
-            if what:
-                found += 1
-                keep_found(given.found, given.seed, number, case, what)
-                print(f"case {number}, {case.kind}: {what}: {list(case.calls[-1])}", flush=True)
+        numbers = range(first, given.first + given.cases, step)
+        seen, most, found = play_texts(given, shared, numbers, until) if given.rows else play_cases(given, player, shared, numbers, until)
     finally:
         os.chdir("/")
         shutil.rmtree(room)
@@ -123,10 +150,13 @@ def main():
     words.add_argument("--cases", type=int, default=20000)
     words.add_argument("--first", type=int, default=0)
     words.add_argument("--workers", type=int, default=os.cpu_count())
+    words.add_argument("--seconds", type=float, default=1e9)
+    words.add_argument("--rows")
     words.add_argument("--found", default="fuzz-found")
     words.add_argument("--again", type=int)
     given = words.parse_args()
     given.atac, given.found = os.path.abspath(given.atac), os.path.abspath(given.found)
+    given.rows = given.rows and os.path.abspath(given.rows)
     os.makedirs(given.found, exist_ok=True)
     print(f"seed {given.seed}", flush=True)
     sys.exit(1 if (play_all(given) if given.again is None else play_again(given)) else 0)

@@ -1,4 +1,5 @@
 """Mutated C texts: pieces of the examples and of small programs, put together and damaged at random."""
+import functools
 import re
 from pathlib import Path
 
@@ -63,8 +64,13 @@ def inputs():
     return [b"", b"a", b"1\n2\n3\n", bytes(range(256))] + [path.read_bytes()[:400] for path in files]
 
 
+@functools.lru_cache(200)
+def known_pieces(text):
+    return tuple(PIECE.findall(text))
+
+
 def pieces(text):
-    return PIECE.findall(text)
+    return list(known_pieces(text))
 
 
 def is_word(piece):
