@@ -34,11 +34,13 @@ STATEMENTS = [
     b";", b"{}", b"break;", b"continue;", b"return 0;", b"return;", b"x=x+1;", b"int x=1;", b"int*p=&x;", b"*p=3;", b"if(x)x=2;else x=3;",
     b"while(x<3)x++;", b"do x--;while(x>0);", b"for(;;)break;", b"switch(x){case 1:;default:x=1;}", b"putchar(x);", b"x=getchar();",
     b"exit(x);", b"x=1/0;", b"a[x]=x;", b"p->f=1;", b"v.f=v.g;", b"\n#define M 1\n", b"\n#undef M\n", b"\n#include <stdio.h>\n",
-    b"__atac_block(1):", b"__atac_use(1,x)", b"__atac_test(1,x)", b"__atac_def(1,x)", b"__atac_select(1,1,2;x)", b"__atac_program(\"\");",
+    b"__atac_block(1):;", b"__atac_use(1,x);", b"__atac_test(1,x);", b"__atac_def(1,x)=1;", b"switch(__atac_select(1,1;x)){case 1:;}", b"x=__atac_block(2,x);",
 ]
 
 WORDS = b"""break case char const continue default do else enum for if int long return short signed sizeof static struct switch
 unsigned void while auto double extern float goto register typedef union volatile main getchar putchar exit EOF NULL x y p a v f""".split()
+
+TYPES = b"char short int long signed unsigned void const int int int".split()
 
 NUMBERS = [b"0", b"1", b"2", b"-1", b"3", b"7", b"255", b"0x7f", b"010", b"127", b"128", b"2147483647", b"2147483648", b"4294967295",
            b"9223372036854775807", b"18446744073709551615", b"18446744073709551616", b"1L", b"1u", b"1UL", b"08", b"0x", b"1.5", b"1048576",
@@ -77,12 +79,18 @@ def is_word(piece):
     return piece[:1].isalpha() or piece[:1] == b"_"
 
 
+def is_name(piece):
+    return is_word(piece) and piece not in WORDS[:32]
+
+
 def other_piece(draw, piece, here):
     """A piece of the same sort as this one, most of the time."""
     if draw.random() < 0.02:
         return draw.choice(draw.choice((WORDS, NUMBERS, MARKS, STATEMENTS)))
+    if piece in TYPES:
+        return draw.choice(TYPES)
     if is_word(piece):
-        return draw.choice([it for it in here if is_word(it)] if draw.random() < 0.9 else WORDS)
+        return draw.choice([it for it in here if is_name(it)] or WORDS if draw.random() < 0.96 else WORDS)
     if piece[:1].isdigit() or piece[:1] in (b"'", b'"'):
         return draw.choice(NUMBERS)
     alike = [row for row in ALIKE if piece in row]
@@ -90,17 +98,18 @@ def other_piece(draw, piece, here):
 
 
 def change_piece(draw, list_of):
-    at = draw.randrange(len(list_of))
-    if list_of[at].isspace() or list_of[at] in (b"(", b")", b"{", b"}", b";"):
+    for _ in range(8):
         at = draw.randrange(len(list_of))
+        if is_name(list_of[at]) or not (list_of[at].isspace() or list_of[at] in (b"(", b")", b"{", b"}", b";", b",") or is_word(list_of[at])):
+            break
     list_of[at] = other_piece(draw, list_of[at], list_of)
 
 
 def change_word(draw, list_of):
     """Puts a name of the text in another one's place, or a number."""
-    places = [at for at, it in enumerate(list_of) if is_word(it) or it[:1].isdigit()]
-    if places:
-        at = draw.choice(places)
+    found = [at for at, it in enumerate(list_of) if is_name(it) or it in TYPES or it[:1].isdigit()]
+    if found:
+        at = draw.choice(found)
         list_of[at] = other_piece(draw, list_of[at], list_of)
 
 
@@ -132,12 +141,25 @@ def move_pieces(draw, list_of):
     list_of[to:to] = part
 
 
+def places(list_of):
+    """Where a piece ends that a statement may follow, and where a declaration may: in a function, and outside or at its front."""
+    depth, statements, declarations = 0, [], []
+    for at, piece in enumerate(list_of, 1):
+        depth += (piece == b"{") - (piece == b"}")
+        if piece in (b"{", b"}", b";") and depth > 0:
+            statements.append(at)
+        if piece == b"{" or piece in (b"}", b";") and depth == 0:
+            declarations.append(at)
+    return statements, declarations
+
+
 def add_statement(draw, list_of):
-    """Puts a statement or declaration behind a `;`, `{` or `}`, where it has a chance to be taken; with names of the text, half of the time."""
-    ends = [at + 1 for at, it in enumerate(list_of) if it in (b";", b"{", b"}")]
-    names = [it for it in list_of if is_word(it)]
+    """Puts a statement or declaration where it has a chance to be taken; with names of the text, half of the time."""
+    is_statement = draw.random() < 0.7
+    ends = places(list_of)[0 if is_statement else 1]
+    names = [it for it in list_of if is_name(it)]
     if ends and names:
-        new = pieces(draw.choice(DECLARATIONS if draw.random() < 0.3 else STATEMENTS))
+        new = pieces(draw.choice(STATEMENTS if is_statement else DECLARATIONS))
         if draw.random() < 0.5:
             new = [draw.choice(names) if len(it) == 1 and is_word(it) else it for it in new]
         at = draw.choice(ends)
@@ -146,7 +168,7 @@ def add_statement(draw, list_of):
 
 def double_statement(draw, list_of):
     """Puts a part that ends at a `;` a second time, behind another one."""
-    ends = [at + 1 for at, it in enumerate(list_of) if it == b";"]
+    ends = places(list_of)[0]
     if len(ends) > 1:
         at = draw.randrange(len(ends) - 1)
         part = list_of[ends[at]:ends[at + 1]]
@@ -154,8 +176,9 @@ def double_statement(draw, list_of):
         list_of[to:to] = part
 
 
-CHANGES = [change_piece] * 4 + [change_word] * 6 + [drop_pieces, add_piece, double_pieces, swap_pieces, move_pieces] + [add_statement] * 5
-CHANGES += [double_statement] * 2
+# those that keep a text's form, most of the time, and those that break it
+KEEPING = [change_piece] * 3 + [change_word] * 5 + [add_statement] * 5 + [double_statement] * 2
+BREAKING = [drop_pieces, add_piece, double_pieces, swap_pieces, move_pieces]
 
 
 def damage_bytes(draw, text):
@@ -184,6 +207,6 @@ def mutated(draw, source_list):
         list_of = list_of[:at] + other[to:]
     for _ in range(draw.choice((0, 1, 1, 1, 1, 2, 2, 3, 4, 8))):
         if list_of:
-            draw.choice(CHANGES)(draw, list_of)
+            draw.choice(KEEPING if draw.random() < 0.85 else BREAKING)(draw, list_of)
     text = b"".join(list_of)
-    return damage_bytes(draw, text) if draw.random() < 0.08 else text
+    return damage_bytes(draw, text) if draw.random() < 0.06 else text
