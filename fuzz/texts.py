@@ -79,8 +79,27 @@ def is_word(piece):
     return piece[:1].isalpha() or piece[:1] == b"_"
 
 
+FORMS = (b"(", b")", b"{", b"}", b";", b",")
+KEYS = frozenset(WORDS[:32])
+
+
 def is_name(piece):
-    return is_word(piece) and piece not in WORDS[:32]
+    return is_word(piece) and piece not in KEYS
+
+
+def place_of(draw, list_of, test):
+    """The place of some piece that meets the test, or None where it isn't soon found."""
+    for _ in range(40):
+        at = draw.randrange(len(list_of))
+        if test(list_of[at]):
+            return at
+    return None
+
+
+def name_of(draw, list_of):
+    """A name of the text, or another word."""
+    at = place_of(draw, list_of, is_name)
+    return draw.choice(WORDS) if at is None else list_of[at]
 
 
 def other_piece(draw, piece, here):
@@ -90,7 +109,7 @@ def other_piece(draw, piece, here):
     if piece in TYPES:
         return draw.choice(TYPES)
     if is_word(piece):
-        return draw.choice([it for it in here if is_name(it)] or WORDS if draw.random() < 0.96 else WORDS)
+        return name_of(draw, here) if draw.random() < 0.96 else draw.choice(WORDS)
     if piece[:1].isdigit() or piece[:1] in (b"'", b'"'):
         return draw.choice(NUMBERS)
     alike = [row for row in ALIKE if piece in row]
@@ -98,18 +117,16 @@ def other_piece(draw, piece, here):
 
 
 def change_piece(draw, list_of):
-    for _ in range(8):
-        at = draw.randrange(len(list_of))
-        if is_name(list_of[at]) or not (list_of[at].isspace() or list_of[at] in (b"(", b")", b"{", b"}", b";", b",") or is_word(list_of[at])):
-            break
+    at = place_of(draw, list_of, lambda it: it not in FORMS and not it.isspace() and it not in KEYS)
+    if at is None:
+        return
     list_of[at] = other_piece(draw, list_of[at], list_of)
 
 
 def change_word(draw, list_of):
     """Puts a name of the text in another one's place, or a number."""
-    found = [at for at, it in enumerate(list_of) if is_name(it) or it in TYPES or it[:1].isdigit()]
-    if found:
-        at = draw.choice(found)
+    at = place_of(draw, list_of, lambda it: is_name(it) or it in TYPES or it[:1].isdigit())
+    if at is not None:
         list_of[at] = other_piece(draw, list_of[at], list_of)
 
 
@@ -157,11 +174,10 @@ def add_statement(draw, list_of):
     """Puts a statement or declaration where it has a chance to be taken; with names of the text, half of the time."""
     is_statement = draw.random() < 0.7
     ends = places(list_of)[0 if is_statement else 1]
-    names = [it for it in list_of if is_name(it)]
-    if ends and names:
+    if ends:
         new = pieces(draw.choice(STATEMENTS if is_statement else DECLARATIONS))
         if draw.random() < 0.5:
-            new = [draw.choice(names) if len(it) == 1 and is_word(it) else it for it in new]
+            new = [name_of(draw, list_of) if len(it) == 1 and is_word(it) else it for it in new]
         at = draw.choice(ends)
         list_of[at:at] = new
 
