@@ -357,9 +357,11 @@ class Traces(Long):
         bytes_of[-1] ^= 1
         self.put({"l": bytes_of})
         self.measured(["report", "p", "l"], 6, b"", b"atac: l: 64 Damaged\n")
-        bytes_of[-41] ^= 1
-        self.put({"l": self.sealed(bytes(bytes_of[:-32]))})
-        self.measured(["report", "p", "l"], 6, b"", b"atac: l: 62 Length\n")
+        # in front of the last 32 bytes stand two numbers of records, of 4 bytes each, and the count of the last outcome
+        for at, what in ((-41, b"63 Order"), (-37, b"62 Length")):
+            bytes_of[at] ^= 1
+            self.put({"l": self.sealed(bytes(bytes_of[:-32]))})
+            self.measured(["report", "p", "l"], 6, b"", b"atac: l: %s\n" % what)
         self.put({"l": bytes_of + b"x"})
         for words in (["report", "p", "l"], ["merge", "new", "l"], ["run", "q", "e", "l"]):
             self.measured(words, 5, b"", b"atac: l: too long\n")
