@@ -3,13 +3,15 @@
 
     tools/hostile.py ATAC             real files and streams, in a minute
     tools/hostile.py ATAC --long      programs, traces, inputs and runs at their limits and one past them, in some minutes
-    tools/hostile.py ATAC [--long] NAME ..      these tests alone
+    tools/hostile.py ATAC --memory    each growth of memory refused in turn, in some minutes
+    tools/hostile.py ATAC [--long | --memory] NAME ..      these tests alone
 
 What needs another user, a mount or strace is skipped, and said to be, where it can't be had. Ends with 1 where one fails.
 """
+import hashlib
+import importlib
 import os
 import shutil
-import signal
 import socket
 import subprocess
 import sys
@@ -28,18 +30,15 @@ RETURN = b"int main(void){return 0;}"
 SECTION = b"== %s\n\n== returned 0 turns 3 bytes 0\n"
 REPORT = b"block 1 1:15 covered\nblocks 1 of 1\ndecisions 0 of 0\nc-uses 0 of 0\np-uses 0 of 0\nall-uses 0 of 0\n"
 CHECKED = b"accepted: 1 blocks, 0 decisions, 0 definitions, 0 uses\n"
-DIGEST = b"fb8b40ec02a971"
 
 
 def probed():
     """The text of RETURN with its probes, by hand."""
-    import hashlib
     return b'__atac_program ( "%s" ) ;\nint main ( void ) __atac_block ( 1 ) : {\nreturn 0 ;\n}\n' % hashlib.sha256(RETURN).hexdigest().encode()
 
 
 def trace(runs, program=RETURN):
     """A trace of RETURN: so many runs, each of which met block 1."""
-    import hashlib
     body = b"ATAC\0\2" + hashlib.sha256(program).digest() + runs.to_bytes(4, "big") + bytes(4)
     body += b"\0\0\0\1\0\1" + runs.to_bytes(4, "big") + bytes(12)
     return body + hashlib.sha256(body).digest()
@@ -377,18 +376,19 @@ class Streams(Room):
         self.answers(["merge", "/dev/full", "t"], 9, b"runs 1\n", line(b"keep fault", "/dev/full"))
 
 
+MODES = {"": "hostile_calls", "--long": "hostile_long", "--memory": "hostile_memory"}
+
+
 def main():
     global ATAC
-    names = [word for word in sys.argv[1:] if word != "--long"]
+    modes = [word for word in sys.argv[1:] if word in MODES] or [""]
+    names = [word for word in sys.argv[1:] if word not in MODES]
     if not names or names[0].startswith("-"):
         sys.exit(__doc__)
     ATAC = os.path.abspath(names.pop(0))
     sys.modules["hostile"] = sys.modules["__main__"]
-    if "--long" in sys.argv[1:]:
-        import hostile_long as tests
-    else:
-        import hostile_calls as tests
-    for name in [] if "--long" in sys.argv[1:] else ("Names", "Links", "Folders", "Rights", "Streams"):
+    tests = importlib.import_module(MODES[modes[0]])
+    for name in ("Names", "Links", "Folders", "Rights", "Streams") if modes[0] == "" else ():
         setattr(tests, name, globals()[name])
     unittest.main(module=tests, argv=sys.argv[:1] + names)
 

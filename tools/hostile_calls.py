@@ -8,7 +8,7 @@ import tempfile
 import unittest
 
 import hostile
-from hostile import CHECKED, REPORT, RETURN, SECTION, Room, line, probed, trace
+from hostile import REPORT, RETURN, SECTION, Room, line, probed, trace
 
 TRACED = shutil.which("strace") and subprocess.run(
     ["strace", "-o", "/dev/null", "-e", "inject=getpid:retval=1", "true"], capture_output=True).returncode == 0
