@@ -175,7 +175,8 @@ class Folders(Room):
     def test_folders(self):
         os.mkdir(self.room / "d")
         for name, status, what in (("d", 7, b"read fault"), (".", 7, b"read fault"), ("/", 7, b"read fault"), ("no/p", 4, b"absent"),
-                                   ("p/x", 4, b"absent"), ("d/../p/.", 4, b"absent")):
+                                   ("p/x", 4, b"absent"), ("d/../p/.", 4, b"absent"), ("p/", 4, b"absent"), ("d/", 7, b"read fault"),
+                                   ("new/", 4, b"absent")):
             self.answers(["check", name], status, err=line(what, name))
             self.answers(["cover", "p", "e", name], status, SECTION % b"e", line(what, name))
             self.answers(["merge", "m", name], status, err=line(what, name))
@@ -334,6 +335,19 @@ class Streams(Room):
         self.answers(["run", "/dev/stdin", "e"], 0, SECTION % b"e", stdin=None, input=probed())
         self.answers(["report", "p", "/dev/stdin"], 0, REPORT, stdin=None, input=trace(1))
         self.answers(["check", "/dev/stdin"], 3, err=b"atac: /dev/stdin:1:1: 20 Syntax\n")
+        self.answers(["check", "/dev/stdin"], 4, err=line(b"absent", "/dev/stdin"), preexec_fn=lambda: os.close(0))
+
+    def test_pipe_that_takes_no_more(self):
+        """A pipe that doesn't wait, and is full: the put fails, and a front of the text stands in it."""
+        self.put({"p": b"int main(void){for(;;)putchar(97);}"})
+        reads, writes = os.pipe()
+        os.set_blocking(writes, False)
+        self.answers(["run", "-t", "900002", "p", "e"], 8, None, line(b"write fault"), stdout=writes)
+        os.close(writes)
+        with open(reads, "rb") as held:
+            front = held.read()
+        whole = b"== e\n" + b"a" * 300000 + b"\n== turn limit turns 900002 bytes 300000\n"
+        self.assertTrue(0 < len(front) < len(whole) and whole.startswith(front))
 
     def test_slow_pipe(self):
         """A pipe whose bytes come one by one."""
