@@ -163,6 +163,15 @@ class Links(Room):
             self.answers(["run", "q", "e", "t"], 0, SECTION % b"e")
             self.assertEqual(os.stat(self.room / "t").st_mode & 0o777, mode)
 
+    def test_at_once(self):
+        """Of calls that add to one trace at one time some may be lost: each is done, and what stands is whole."""
+        for _ in range(3):
+            self.put({"t": trace(1)})
+            all_of = [subprocess.Popen([ATAC, "run", "q", "e", "t"], cwd=self.room, stdout=subprocess.DEVNULL) for _ in range(8)]
+            self.assertEqual([ran.wait() for ran in all_of], [0] * 8)
+            self.assertIn((self.room / "t").read_bytes(), [trace(runs) for runs in range(2, 10)])
+            self.stands({"p": RETURN, "q": probed(), "e": b"", "t": None})
+
     def test_own_files(self):
         """What is kept may take the place of what was read."""
         self.answers(["merge", "t", "t", "t"], 0, b"runs 2\n")
