@@ -189,6 +189,43 @@ def play_trace(case, shared):
     hold(number == refused, f"{way} says {number or 'nothing'}, and the traces are {refused or 'right'}")
     if refused:
         hold(ran.err == b"atac: %s: %d %s\n" % (name.encode(), refused, answers.TRACES[refused].encode()), "another trace is named")
+    else:
+        told_rightly(case, way, ran.out, traces.summed(wanted))
+
+
+def counted(row, total, of_decision):
+    """In how many runs of the summed traces an item was met, or None where its line alone doesn't tell its numbers."""
+    fields = row.decode().split()
+    numbers = [int(it[1:]) for it in fields if it[0] in "du" and it[1:].isdigit()]
+    if fields[0] == "block":
+        return total["lists"][0].get((int(fields[1]),), 0)
+    if fields[0] == "decision":
+        of_decision[fields[1]] = of_decision.get(fields[1], 0) + 1
+        outcome = {"true": 1, "false": 2}.get(fields[3], of_decision[fields[1]])
+        return total["lists"][1].get((int(fields[1]), outcome), 0)
+    if fields[0] == "c-use":
+        return total["lists"][2].get(tuple(numbers[-2:]), 0)
+    if fields[-1] in ("true", "false"):
+        return total["lists"][3].get((*numbers[-2:], 1 if fields[-1] == "true" else 2), 0)
+    return None
+
+
+def told_rightly(case, way, out, total):
+    """What is told of traces is what their sum says of the listed items."""
+    rows = answers.listed(case.call("list", "p")[0].out)
+    of_decision = {}
+    wanted = [(row, counted(row, total, of_decision)) for row in rows]
+    if way == "hits":
+        more = b" or more" if total["old"] else b""
+        lines = set(out.split(b"\n"))
+        for row, runs in wanted:
+            hold(runs is None or row + b" in %d runs%s" % (runs, more if runs else b"") in lines, "hits tells another number")
+    elif way in ("report", "json"):
+        lines = set(out.split(b"\n") if way == "report" else answers.spelled(out))
+        for row, runs in wanted:
+            hold(runs is None or row + (b" covered" if runs else b" uncovered") in lines, f"{way} marks an item wrongly")
+    elif None not in dict(wanted).values():
+        answers.shown(out, case.files["p"], rows, {row for row, runs in wanted if runs})
 
 
 def trace_bytes(draw, digest):
@@ -245,10 +282,11 @@ def play_words(case, shared):
 KINDS = [(play_text, 78), (play_probed, 8), (play_trace, 10), (play_words, 4)]
 
 
-def play(player, shared, seed, number):
-    """Makes and plays the case of this number."""
+def play(player, shared, seed, number, only=None):
+    """Makes and plays the case of this number, of one kind where it is given."""
     draw = random.Random(f"{seed}/{number}")
-    kind = draw.choices([it for it, _ in KINDS], [weight for _, weight in KINDS])[0]
+    kinds = [(it, weight) for it, weight in KINDS if only in (None, it.__name__[5:])]
+    kind = draw.choices([it for it, _ in kinds], [weight for _, weight in kinds])[0]
     player.clear()
     case = Case(player, draw)
     case.kind = kind.__name__[5:]

@@ -3,6 +3,7 @@
 
     fuzz/fuzz.py ATAC [--seed N] [--cases N] [--first N] [--workers N] [--seconds N] [--found FOLDER]
     fuzz/fuzz.py ATAC --seed N --again CASE      plays one case again and prints its calls
+    fuzz/fuzz.py ATAC --kind KIND ..             cases of one kind alone: text, probed, trace or words
     fuzz/fuzz.py ATAC --rows ROWS ..             texts alone, one call each, many in one process: ROWS is the program of rows_commands
 
 A case depends on the seed and its number alone. Each has 20 processor seconds and 1 GiB a call. What is wrong is kept under FOLDER
@@ -43,7 +44,7 @@ def play_cases(given, player, shared, numbers, until):
     for number in numbers:
         if time.monotonic() > until:
             break
-        case, what = cases.play(player, shared, given.seed, number)
+        case, what = cases.play(player, shared, given.seed, number, given.kind)
         seen["kind", case.kind] += 1
         for command, status, refusal, memory in case.seen:
             seen["call", command, status, refusal] += 1
@@ -133,7 +134,7 @@ def play_again(given):
     play.limit_self()
     with tempfile.TemporaryDirectory() as room:
         player = play.Player(given.atac, room)
-        case, what = cases.play(player, cases.gathered(player), given.seed, given.again)
+        case, what = cases.play(player, cases.gathered(player), given.seed, given.again, given.kind)
         for words in case.calls:
             print(list(words))
         print(what or "nothing found")
@@ -152,6 +153,7 @@ def main():
     words.add_argument("--workers", type=int, default=os.cpu_count())
     words.add_argument("--seconds", type=float, default=1e9)
     words.add_argument("--rows")
+    words.add_argument("--kind", choices=[it.__name__[5:] for it, _ in cases.KINDS])
     words.add_argument("--found", default="fuzz-found")
     words.add_argument("--again", type=int)
     given = words.parse_args()

@@ -90,7 +90,7 @@ def summed(all_of):
 
 
 def number(draw, most=16383):
-    return draw.choice((1, 2, 3, draw.randint(1, 20), draw.randint(1, most), most))
+    return draw.choice((1, 2, 3, draw.randint(1, 8), draw.randint(1, 20), draw.randint(1, 20), draw.randint(1, most), most))
 
 
 def made(draw, digest):
@@ -98,7 +98,7 @@ def made(draw, digest):
     lists = []
     for form in LISTS:
         rows = {}
-        for _ in range(draw.choice((0, 1, 2, 5, 30))):
+        for _ in range(draw.choice((0, 1, 2, 5, 30, 100))):
             key = tuple(number(draw, 16383 if letter == "H" else MOST) for letter in form[1:])
             rows[key] = number(draw, MOST)
         lists.append(rows)
@@ -111,7 +111,7 @@ def damaged(draw, bytes_of):
     body = bytearray(bytes_of[:-32])
     for _ in range(draw.choice((1, 1, 2, 4))):
         at = draw.randrange(len(body) + 1)
-        way = draw.randrange(5)
+        way = draw.choice((0, 1, 1, 1, 1, 2, 3, 4, 4))
         if way == 0:
             del body[at:]
         elif way == 1 and at < len(body):
