@@ -19,8 +19,32 @@ const PROBED: &[u8] =
 
 const SECTION: &[u8] = b"== e\n\n== returned 0 turns 3 bytes 0\n";
 
-const TOTALS: &str =
-    "blocks 1 of 1\ndecisions 0 of 0\nc-uses 0 of 0\np-uses 0 of 0\nall-uses 0 of 0\n";
+// What each command puts of these, by hand.
+const CHECKED: &[u8] = b"accepted: 1 blocks, 0 decisions, 0 definitions, 0 uses\n";
+
+const LISTED: &[u8] = b"block 1 1:15\nblocks 1\ndecisions 0\nc-uses 0\np-uses 0\nall-uses 0\n";
+
+const REPORT: &[u8] =
+    b"block 1 1:15 covered\nblocks 1 of 1\ndecisions 0 of 0\nc-uses 0 of 0\np-uses 0 of 0\nall-uses 0 of 0\n";
+
+const COVERED: &[u8] =
+    b"== e\n\n== returned 0 turns 3 bytes 0\n== e\n\n== returned 0 turns 3 bytes 0\nblock 1 1:15 covered\nblocks 1 of 1\ndecisions 0 of 0\nc-uses 0 of 0\np-uses 0 of 0\nall-uses 0 of 0\n";
+
+const SHOWN: &[u8] =
+    b"     1   int main(void){return 0;}\nblocks 1 of 1\ndecisions 0 of 0\nc-uses 0 of 0\np-uses 0 of 0\nall-uses 0 of 0\n";
+
+const HITS: &[u8] =
+    b"block 1 1:15 in 4 runs\nblocks 1 of 1\ndecisions 0 of 0\nc-uses 0 of 0\np-uses 0 of 0\nall-uses 0 of 0\n";
+
+const JSON: &[u8] =
+    b"{\"blocks\":[{\"col\":15,\"covered\":true,\"line\":1,\"number\":1}],\"c-uses\":[],\"decisions\":[],\"p-uses\":[]}\n";
+
+const PICKED: &[u8] =
+    b"keep e\ndrop e\nkept 1 of 2\nblocks 1 of 1\ndecisions 0 of 0\nc-uses 0 of 0\np-uses 0 of 0\nall-uses 0 of 0\n";
+
+const EVENTS: &[u8] = b"== e\n\n== returned 0 turns 3 bytes 0\nblock 1\n";
+
+const BLOCKS: &[u8] = b"== e\n\n== returned 0 turns 3 bytes 0\nblock 1 1\n";
 
 // A trace of two runs of RETURN, which met block 1: 100 bytes.
 fn trace() -> [u8; 100] {
@@ -155,50 +179,35 @@ fn play(alloc: Global, line: &str, faults: Faults) -> Result<After, AllocError> 
 #[test]
 fn failing_fetches(rt: HostRuntime) -> Result<(), Fail> {
     let alloc = rt.alloc();
-    let none = b"".as_slice();
-    let p = b"atac: p: read fault\n".as_slice();
-    let q = b"atac: q: read fault\n".as_slice();
-    let e = b"atac: e: read fault\n".as_slice();
-    let t = b"atac: t: read fault\n".as_slice();
-    let u = b"atac: u: read fault\n".as_slice();
-    let rows: [(&str, u64, &[u8], &[u8]); 30] = [
-        ("check p", 1, none, p),
-        ("list p", 1, none, p),
-        ("instrument p new", 1, none, p),
-        ("run p e", 1, none, p),
-        ("run p e", 2, none, e),
-        ("run q e t", 1, none, q),
-        ("run q e t", 2, none, e),
-        ("run q e t", 3, none, t),
-        ("run q e new", 3, none, b"atac: new: read fault\n"),
-        ("cover p e e", 1, none, p),
-        ("cover p e e", 2, none, e),
-        ("cover p e e", 3, SECTION, e),
-        ("merge new t u", 1, none, t),
-        ("merge new t u", 2, none, u),
-        ("report p t u", 1, none, p),
-        ("report p t u", 2, none, t),
-        ("report p t u", 3, none, u),
-        ("show p t u", 1, none, p),
-        ("show p t u", 2, none, t),
-        ("show p t u", 3, none, u),
-        ("hits p t u", 1, none, p),
-        ("hits p t u", 2, none, t),
-        ("hits p t u", 3, none, u),
-        ("json p t u", 2, none, t),
-        ("json p t u", 3, none, u),
-        ("pick p e e", 1, none, p),
-        ("pick p e e", 2, none, e),
-        ("pick p e e", 3, none, e),
-        ("watch p e blocks", 1, none, p),
-        ("watch p e events", 2, none, e),
+    // a call, and what it fetches
+    let rows: [(&str, &str); 13] = [
+        ("check p", "p"),
+        ("list p", "p"),
+        ("instrument p new", "p"),
+        ("run p e", "p e"),
+        ("run q e t", "q e t"),
+        ("run q e new", "q e new"),
+        ("cover p e e", "p e e"),
+        ("merge new t u", "t u"),
+        ("report p t u", "p t u"),
+        ("hits p t u", "p t u"),
+        ("json p t u", "p t u"),
+        ("pick p e e", "p e e"),
+        ("watch p e blocks", "p e"),
     ];
-    for (line, fetch, out, err) in rows {
-        let mut left = play(alloc, line, Faults { fetch, ..NONE })?;
-        assert!(rt; left.status == Status::ReadFault, "at {line}, {fetch}");
-        assert!(rt; left.out.bytes() == out, "at {line}, {fetch}");
-        assert!(rt; left.err.bytes() == err, "at {line}, {fetch}");
-        assert!(rt; left.stands(alloc, ""), "at {line}, {fetch}");
+    for (line, names) in rows {
+        let mut fetch = 0u64;
+        for name in names.split(' ') {
+            fetch = fetch.saturating_add(1);
+            let sections = line == "cover p e e" && fetch == 3;
+            let out: &[u8] = if sections { SECTION } else { b"" };
+            let err = format!(in alloc; "atac: {name}: read fault\n")?;
+            let mut left = play(alloc, line, Faults { fetch, ..NONE })?;
+            assert!(rt; left.status == Status::ReadFault, "at {line}, {fetch}");
+            assert!(rt; left.out.bytes() == out, "at {line}, {fetch}");
+            assert!(rt; left.err.bytes() == err.as_bytes(), "at {line}, {fetch}");
+            assert!(rt; left.stands(alloc, ""), "at {line}, {fetch}");
+        }
     }
     Ok(())
 }
@@ -226,51 +235,23 @@ fn puts_fail(alloc: Global, line: &str, text: &[u8]) -> Result<bool, AllocError>
 #[test]
 fn failing_puts(rt: HostRuntime) -> Result<(), Fail> {
     let alloc = rt.alloc();
-    let section = "== e\n\n== returned 0 turns 3 bytes 0\n";
-    let item = "block 1 1:15";
-    let json =
-        "{\"blocks\":[{\"col\":15,\"covered\":true,\"line\":1,\"number\":1}],\"c-uses\":[],\"decisions\":[],\"p-uses\":[]}\n";
-    let rows = [
-        (
-            "check p",
-            format!(in alloc; "accepted: 1 blocks, 0 decisions, 0 definitions, 0 uses\n")?,
-        ),
-        (
-            "list p",
-            format!(in alloc; "{item}\nblocks 1\ndecisions 0\nc-uses 0\np-uses 0\nall-uses 0\n")?,
-        ),
-        ("run p e", format!(in alloc; "{section}")?),
-        ("run q e t", format!(in alloc; "{section}")?),
-        (
-            "cover p e e",
-            format!(in alloc; "{section}{section}{item} covered\n{TOTALS}")?,
-        ),
-        ("merge new t u", format!(in alloc; "runs 4\n")?),
-        (
-            "report p t u",
-            format!(in alloc; "{item} covered\n{TOTALS}")?,
-        ),
-        (
-            "show p t",
-            format!(in alloc; "     1   int main(void){{return 0;}}\n{TOTALS}")?,
-        ),
-        (
-            "hits p t u",
-            format!(in alloc; "{item} in 4 runs\n{TOTALS}")?,
-        ),
-        ("json p t", format!(in alloc; "{json}")?),
-        (
-            "pick p e e",
-            format!(in alloc; "keep e\ndrop e\nkept 1 of 2\n{TOTALS}")?,
-        ),
-        ("watch p e events", format!(in alloc; "{section}block 1\n")?),
-        (
-            "watch p e blocks",
-            format!(in alloc; "{section}block 1 1\n")?,
-        ),
+    let rows: [(&str, &[u8]); 13] = [
+        ("check p", CHECKED),
+        ("list p", LISTED),
+        ("run p e", SECTION),
+        ("run q e t", SECTION),
+        ("cover p e e", COVERED),
+        ("merge new t u", b"runs 4\n"),
+        ("report p t u", REPORT),
+        ("show p t", SHOWN),
+        ("hits p t u", HITS),
+        ("json p t", JSON),
+        ("pick p e e", PICKED),
+        ("watch p e events", EVENTS),
+        ("watch p e blocks", BLOCKS),
     ];
-    for (line, text) in rows.iter() {
-        assert!(rt; puts_fail(alloc, line, text.as_bytes())?, "at {line}");
+    for (line, text) in rows {
+        assert!(rt; puts_fail(alloc, line, text)?, "at {line}");
     }
     Ok(())
 }
@@ -306,12 +287,12 @@ fn lines_fail(
     alloc: Global,
     line: &str,
     faults: Faults,
-    status: Status,
+    code: u8,
     err: &[u8],
 ) -> Result<bool, AllocError> {
     for tell in 1..10u64 {
         let mut left = play(alloc, line, Faults { tell, ..faults })?;
-        if left.status != status || !left.stands(alloc, "") {
+        if left.status.code() != code || !left.stands(alloc, "") {
             return Ok(false);
         }
         if left.err.bytes() == err {
@@ -331,56 +312,25 @@ fn failing_lines(rt: HostRuntime) -> Result<(), Fail> {
     let fetch = Faults { fetch: 2, ..NONE };
     let put = Faults { put: 1, ..NONE };
     let keep = Faults { keep: 1, ..NONE };
-    let rows: [(&str, Faults, Status, &[u8]); 11] = [
-        ("frob", NONE, Status::Usage, b"atac: bad usage\n"),
-        (
-            "check bad",
-            NONE,
-            Status::Refused,
-            b"atac: bad:1:23: 30 UnknownName\n",
-        ),
-        (
-            "run p e t",
-            NONE,
-            Status::Refused,
-            b"atac: p:1:1: 53 NotProbed\n",
-        ),
-        ("check no", NONE, Status::Absent, b"atac: no: absent\n"),
-        ("cover p no", NONE, Status::Absent, b"atac: no: absent\n"),
-        (
-            "report p bad",
-            NONE,
-            Status::BadTrace,
-            b"atac: bad: 60 NotATrace\n",
-        ),
-        (
-            "run p e",
-            fetch,
-            Status::ReadFault,
-            b"atac: e: read fault\n",
-        ),
-        ("check p", put, Status::WriteFault, b"atac: write fault\n"),
-        (
-            "merge new t",
-            put,
-            Status::WriteFault,
-            b"atac: write fault\n",
-        ),
-        (
-            "instrument p new",
-            keep,
-            Status::KeepFault,
-            b"atac: new: keep fault\n",
-        ),
-        (
-            "watch p e x",
-            NONE,
-            Status::NoWatcher,
-            b"atac: x: no watcher\n",
-        ),
+    let rows: [(&str, Faults, u8, &str); 11] = [
+        ("frob", NONE, 2, "bad usage"),
+        ("check bad", NONE, 3, "bad:1:23: 30 UnknownName"),
+        ("run p e t", NONE, 3, "p:1:1: 53 NotProbed"),
+        ("check no", NONE, 4, "no: absent"),
+        ("cover p no", NONE, 4, "no: absent"),
+        ("report p bad", NONE, 6, "bad: 60 NotATrace"),
+        ("run p e", fetch, 7, "e: read fault"),
+        ("check p", put, 8, "write fault"),
+        ("merge new t", put, 8, "write fault"),
+        ("instrument p new", keep, 9, "new: keep fault"),
+        ("watch p e x", NONE, 11, "x: no watcher"),
     ];
-    for (line, faults, status, err) in rows {
-        assert!(rt; lines_fail(alloc, line, faults, status, err)?, "at {line}");
+    for (line, faults, code, said) in rows {
+        let err = format!(in alloc; "atac: {said}\n")?;
+        assert!(rt;
+            lines_fail(alloc, line, faults, code, err.as_bytes())?,
+            "at {line}"
+        );
     }
     Ok(())
 }
@@ -391,7 +341,7 @@ fn failing_summary(rt: HostRuntime) -> Result<(), Fail> {
     let alloc = rt.alloc();
     let firm = play(
         alloc,
-        "self 1",
+        "self -t 100 1",
         Faults {
             fetch: 1,
             keep: 1,
@@ -400,7 +350,7 @@ fn failing_summary(rt: HostRuntime) -> Result<(), Fail> {
     )?;
     assert_eq!(rt; firm.status, Status::Done);
     assert!(rt; firm.out.bytes().starts_with(b"program "));
-    assert!(rt; puts_fail(alloc, "self 1", firm.out.bytes())?);
+    assert!(rt; puts_fail(alloc, "self -t 100 1", firm.out.bytes())?);
     Ok(())
 }
 
