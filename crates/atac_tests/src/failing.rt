@@ -200,7 +200,7 @@ fn failing_fetches(rt: HostRuntime) -> Result<(), Fail> {
         for name in names.split(' ') {
             fetch = fetch.saturating_add(1);
             let sections = line == "cover p e e" && fetch == 3;
-            let out: &[u8] = if sections { SECTION } else { b"" };
+            let out = if sections { SECTION } else { b"".as_slice() };
             let err = format!(in alloc; "atac: {name}: read fault\n")?;
             let mut left = play(alloc, line, Faults { fetch, ..NONE })?;
             assert!(rt; left.status == Status::ReadFault, "at {line}, {fetch}");
