@@ -180,7 +180,7 @@ fn play(alloc: Global, line: &str, faults: Faults) -> Result<After, AllocError> 
 fn failing_fetches(rt: HostRuntime) -> Result<(), Fail> {
     let alloc = rt.alloc();
     // a call, and what it fetches
-    let rows: [(&str, &str); 13] = [
+    let rows: [(&str, &str); 14] = [
         ("check p", "p"),
         ("list p", "p"),
         ("instrument p new", "p"),
@@ -190,6 +190,7 @@ fn failing_fetches(rt: HostRuntime) -> Result<(), Fail> {
         ("cover p e e", "p e e"),
         ("merge new t u", "t u"),
         ("report p t u", "p t u"),
+        ("show p t u", "p t u"),
         ("hits p t u", "p t u"),
         ("json p t u", "p t u"),
         ("pick p e e", "p e e"),
