@@ -8,10 +8,9 @@ import resource
 import struct
 import subprocess
 import time
-import unittest
 
 import hostile
-from hostile import RETURN, Room, line
+from hostile import RETURN, Room
 
 STACK = 8 << 20
 MEMORY_KB = 1 << 20

@@ -9,7 +9,6 @@ import tempfile
 import unittest
 from pathlib import Path
 
-import hostile
 from hostile import Room, line, trace
 
 SOURCE = r"""
