@@ -10,6 +10,8 @@ mod collector;
 #[cfg(test)]
 mod events;
 #[cfg(test)]
+mod failing;
+#[cfg(test)]
 mod flows;
 #[cfg(test)]
 mod handed;
