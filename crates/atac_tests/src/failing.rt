@@ -46,19 +46,18 @@ const EVENTS: &[u8] = b"== e\n\n== returned 0 turns 3 bytes 0\nblock 1\n";
 
 const BLOCKS: &[u8] = b"== e\n\n== returned 0 turns 3 bytes 0\nblock 1 1\n";
 
+// The runs and old runs of a trace, its blocks, each with its number of runs, and no outcome, pair or p-use.
+const TWO_RUNS: &[u8] =
+    b"\x00\x00\x00\x02\x00\x00\x00\x00\x00\x00\x00\x01\x00\x01\x00\x00\x00\x02\x00\x00\x00\x00\x00\x00\x00\x00\x00\x00\x00\x00";
+
 // A trace of two runs of RETURN, which met block 1: 100 bytes.
-fn trace() -> [u8; 100] {
-    let mut bytes = [0u8; 100];
-    bytes[..4].copy_from_slice(b"ATAC");
-    bytes[5] = 2;
-    bytes[6..38].copy_from_slice(&Sha256::digest(RETURN));
-    bytes[41] = 2;
-    bytes[49] = 1;
-    bytes[51] = 1;
-    bytes[55] = 2;
-    let digest = Sha256::digest(&bytes[..68]);
-    bytes[68..].copy_from_slice(&digest);
-    bytes
+fn trace(alloc: Global) -> Result<Vec<u8>, AllocError> {
+    let mut bytes = Vec::from_slice(alloc, b"ATAC\x00\x02")?;
+    bytes.extend_from_slice(Sha256::digest(RETURN).as_slice())?;
+    bytes.extend_from_slice(TWO_RUNS)?;
+    let digest = Sha256::digest(&bytes);
+    bytes.extend_from_slice(digest.as_slice())?;
+    Ok(bytes)
 }
 
 /// Which call of a kind fails, counted from 1; 0 is none.
@@ -107,11 +106,14 @@ impl After {
 
     // All files are as they were, but perhaps the one of this name.
     fn stands(&mut self, alloc: Global, but: &str) -> bool {
+        let Ok(trace) = trace(alloc) else {
+            return false;
+        };
         self.holds(alloc, "p", RETURN)
             && self.holds(alloc, "q", PROBED)
             && self.holds(alloc, "e", b"")
-            && self.holds(alloc, "u", &trace())
-            && (but == "t" || self.holds(alloc, "t", &trace()))
+            && self.holds(alloc, "u", &trace)
+            && (but == "t" || self.holds(alloc, "t", &trace))
             && (but == "new" || self.has_not(alloc, "new"))
     }
 }
@@ -132,8 +134,8 @@ fn shelf(alloc: Global, faults: Faults) -> Result<MemoryShelf, AllocError> {
     let _ = shelf.keep("p", RETURN);
     let _ = shelf.keep("q", PROBED);
     let _ = shelf.keep("e", b"");
-    let _ = shelf.keep("t", &trace());
-    let _ = shelf.keep("u", &trace());
+    let _ = shelf.keep("t", trace(alloc)?.as_slice());
+    let _ = shelf.keep("u", trace(alloc)?.as_slice());
     let _ = shelf.keep("bad", b"int main(void){return y;}");
     Ok(shelf)
 }
