@@ -177,7 +177,27 @@ fn play(alloc: Global, line: &str, faults: Faults) -> Result<After, AllocError> 
     })
 }
 
-/// Each fetch of each command fails in turn: the line names its file, sections stand for `cover` alone, and no file changes.
+// Whether each fetch of a call fails in turn: 7, the line names its file, sections stand for `cover` alone, and no file changed.
+fn fetches_fail(alloc: Global, line: &str, names: &str) -> Result<bool, AllocError> {
+    let mut fetch = 0u64;
+    for name in names.split(' ') {
+        fetch = fetch.saturating_add(1);
+        let sections = line == "cover p e e" && fetch == 3;
+        let out = if sections { SECTION } else { b"".as_slice() };
+        let err = format!(in alloc; "atac: {name}: read fault\n")?;
+        let mut left = play(alloc, line, Faults { fetch, ..NONE })?;
+        if left.status != Status::ReadFault
+            || left.out.bytes() != out
+            || left.err.bytes() != err.as_bytes()
+            || !left.stands(alloc, "")
+        {
+            return Ok(false);
+        }
+    }
+    Ok(true)
+}
+
+/// Each fetch of each command fails in turn.
 #[test]
 fn failing_fetches(rt: HostRuntime) -> Result<(), Fail> {
     let alloc = rt.alloc();
@@ -199,18 +219,7 @@ fn failing_fetches(rt: HostRuntime) -> Result<(), Fail> {
         ("watch p e blocks", "p e"),
     ];
     for (line, names) in rows {
-        let mut fetch = 0u64;
-        for name in names.split(' ') {
-            fetch = fetch.saturating_add(1);
-            let sections = line == "cover p e e" && fetch == 3;
-            let out = if sections { SECTION } else { b"".as_slice() };
-            let err = format!(in alloc; "atac: {name}: read fault\n")?;
-            let mut left = play(alloc, line, Faults { fetch, ..NONE })?;
-            assert!(rt; left.status == Status::ReadFault, "at {line}, {fetch}");
-            assert!(rt; left.out.bytes() == out, "at {line}, {fetch}");
-            assert!(rt; left.err.bytes() == err.as_bytes(), "at {line}, {fetch}");
-            assert!(rt; left.stands(alloc, ""), "at {line}, {fetch}");
-        }
+        assert!(rt; fetches_fail(alloc, line, names)?, "at {line}");
     }
     Ok(())
 }
