@@ -171,8 +171,8 @@ pub record GoesBy (U : List (Option (List ℕ)) → Reading → Type 0) (asked_f
 abbrev pub Goes : Option Command → ShelfState → ShelfState → SinkState → SinkState → End → Type 0
 Goes asked_for = GoesBy (Understands asked_for) asked_for
 
--- The watchers that are handed in: whether none has a name; and what is said under a name, once events are told to the first that has
--- it: its text of each list of events that it stands for, with these behind.
+-- The watchers that are handed in: whether none has a name; and what is said under a name that one has, once events are told to the first
+-- that has it: its text of each list of events that it stands for, with these behind.
 pub record Handed : Type 1 where
   pub none : List ℕ → Type 0
   pub says : List ℕ → List Event → List ℕ → Type 0
@@ -180,7 +180,8 @@ pub record Handed : Type 1 where
 abbrev pub handed : {W : Type 0} → (W → List ℕ) → (W → List Event → Type 0) → (W → List Event → List ℕ) → List W → Handed
 handed {W} called stands text_of ws = record {
   none = λ name. find (λ w. bytes_eq (called w) name) ws ≡ None;
-  says = λ name log said. (w : W) → find (λ w. bytes_eq (called w) name) ws ≡ Some w → (h : List Event) → stands w h → said ≡ text_of w (h ++ log);
+  says = λ name log said. (find (λ w. bytes_eq (called w) name) ws ≡ None → ⊥)
+      × ((w : W) → find (λ w. bytes_eq (called w) name) ws ≡ Some w → (h : List Event) → stands w h → said ≡ text_of w (h ++ log));
 }
 
 abbrev pub IsSaid : Handed → List ℕ → List Event → Saying → Type 0

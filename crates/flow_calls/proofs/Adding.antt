@@ -1,9 +1,6 @@
 -- What a part of a run adds to what its own activation did, and that each call inside it is a walk.
-use Rattle.std.proofs.Common.{ℕ, zero, suc, ◌≤◌, ◌<◌, List, [], ◌∷◌, ◌++◌, ◌≡◌, ◌⊎◌, inl, inr, refl, subst, sym, ap, ◌∙◌, append-nil, append_assoc, arith, Bool, true, false, Option, Some, None}
+use Rattle.std.proofs.Common.{ℕ, zero, suc, ◌≤◌, ◌<◌, List, [], ◌∷◌, ◌++◌, ◌≡◌, ◌⊎◌, inl, inr, refl, subst, sym, ap, ◌∙◌, append-nil, append_assoc, arith, Bool, true, false}
 use Rattle.c_events.specs.declared.events.Event.{Event}
-use Rattle.c_store.specs.declared.value.Value.{Value}
-use Rattle.c_syntax.specs.Shape.{TypeOf}
-use Rattle.c_meaning.specs.declared.end.Flow.{Flow}
 use Rattle.c_meaning.specs.declared.end.Stop.{Stop}
 use Rattle.c_meaning.specs.State.{Act, begins, tells, repeats, Bound, Deed, Call, State, activation, activation_in, did, in_call, tail_of}
 use Rattle.c_meaning.specs.Deeds.{own}

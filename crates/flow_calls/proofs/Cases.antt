@@ -1,10 +1,10 @@
 -- The cases of a switch: from which statement on the value's number leads, and that walks lead there.
-use Rattle.std.proofs.Common.{ℤ, ℕ, zero, suc, ◌≤◌, ◌<◌, ◌+◌, ◌-◌, List, [], ◌∷◌, ◌++◌, ◌≡◌, refl, sym, subst, ap, ◌∙◌, inl, inr, length, arith, Option, Some, None, Bool, true, false}
+use Rattle.std.proofs.Common.{ℤ, ℕ, zero, suc, ◌≤◌, ◌<◌, ◌+◌, ◌-◌, List, [], ◌∷◌, ◌++◌, ◌≡◌, refl, subst, ap, inl, inr, length, arith, Option, Some, None, Bool, true, false}
 use Rattle.std.proofs.lemmas.Bool.Decides.{nat_tests}
 use Rattle.std.specs.Prelude.{◌||◌, nat_le, if◌then◌else◌}
 use Rattle.std.specs.Ordering.{int_eq}
 use Rattle.c_base.specs.declared.place.IntKind.{IntKind}
-use Rattle.c_syntax.specs.Shape.{LabelShape, case, default, StmtShape, ItemShapes, no_items, more_items}
+use Rattle.c_syntax.specs.Shape.{LabelShape, case, default, ItemShapes, no_items, more_items}
 use Rattle.c_store.specs.declared.value.Value.{Value}
 use Rattle.c_store.specs.declared.value.Value.TheVariants.{Int, Null, At}
 use Rattle.c_arith.specs.Arith.{wrap}
@@ -16,7 +16,7 @@ use Rattle.c_walk.specs.Counted.{next_block}
 use Rattle.c_walk.specs.Stating.{splits, is_labelled, case_count, pos_of_stmt, walk_stmt}
 use Rattle.c_meaning.specs.Constants.{label_constants, case_constants, number_among, chosen_among}
 use Rattle.flow_walks.specs.declared.action.Action.TheVariants.{Block, Test}
-use Rattle.flow_walks.specs.Comes.{Met, act, Comes, emit, emit_if, choice}
+use Rattle.flow_walks.specs.Comes.{act, Comes, emit, emit_if, choice}
 use Rattle.flow_walks.specs.Statements.{Exits, then_goes, cases_go, stmt_goes, items_go, at_cases}
 use Rattle.flow_walks.proofs.More.{In}
 

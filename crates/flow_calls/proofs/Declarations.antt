@@ -1,17 +1,14 @@
 -- What a declaration adds is a beginning of a walk of it.
-use Rattle.std.proofs.Common.{ℕ, suc, List, [], ◌∷◌, ◌≡◌, refl, sym, subst, arith, Option, Some, None}
-use Rattle.c_base.specs.declared.place.Pos.{Pos}
+use Rattle.std.proofs.Common.{ℕ, suc, List, [], ◌∷◌, refl, sym, subst, arith, Option, Some, None}
 use Rattle.c_syntax.specs.declared.text.Text.{Text}
 use Rattle.c_syntax.specs.declared.tree.Named.{Named}
 use Rattle.c_syntax.specs.Shape.{TypeOf, int, pointer, array, structure, nothing, number, char, str, name, NodeShape, node, leaf, paren, call, prefix, size_of_type, cast, suffix, two, choose, probe, DeclShape, decl, DeclShapes, no_decls, more_decls, DeclaratorShape, declarator, DeclaratorShapes, no_declarators, more_declarators, arrays, function, MaybeInit, no_init, one_init, one, listed}
 use Rattle.c_store.specs.declared.value.Value.{Value}
 use Rattle.c_store.specs.declared.value.Pointer.{Pointer}
 use Rattle.c_walk.specs.declared.around.Around.{Around}
-use Rattle.c_walk.specs.declared.around.Taken.TheVariants.{Read}
 use Rattle.c_walk.specs.Walked.{Walked}
 use Rattle.c_walk.specs.Counted.{next_def}
 use Rattle.c_walk.specs.Stating.{with_variable, with_whole_def, walk_declarator, walk_decl}
-use Rattle.c_meaning.specs.declared.end.Flow.{Flow}
 use Rattle.c_meaning.specs.State.{makes, tells, repeats, Bound, State, with_bound}
 use Rattle.c_meaning.specs.Results.{then_do, present, needed}
 use Rattle.c_meaning.specs.Layout.{cells, variable_kind}
@@ -21,15 +18,14 @@ use Rattle.c_meaning.specs.Places.{whole, first_cell, next_cell}
 use Rattle.c_meaning.specs.Constants.{one_cells, init_cells}
 use Rattle.c_meaning.specs.Knot.{Knot}
 use Rattle.c_meaning.specs.Expressions.{meaning}
-use Rattle.c_meaning.specs.Declarations.{make, bind, name_marks, filled, filled_whole, scalar_written, one_value, initialised, bound_variable, made_variable, declared_variable, declared_name, declared_names, declared_decl, declared_all}
+use Rattle.c_meaning.specs.Declarations.{bind, name_marks, filled, scalar_written, one_value, initialised, bound_variable, made_variable, declared_variable, declared_name, declared_names, declared_decl, declared_all}
 use Rattle.c_meaning.specs.Calls.{Source}
 use Rattle.flow_walks.specs.declared.action.Action.TheVariants.{Define, Kill}
 use Rattle.flow_walks.specs.Comes.{act, Comes, emit, value}
-use Rattle.flow_walks.specs.Expressions.{node_goes}
 use Rattle.flow_walks.specs.Statements.{init_goes, maybe_init_goes, declarator_goes, declarators_go, decl_goes, decls_go}
 use Rattle.flow_calls.specs.Orderly.{IsOrderly, HasValue, IsString, IsOrderlyVariable, IsOrderlyDeclarator, AreOrderlyDeclarators, IsOrderlyDecl, AreOrderlyDecls}
 use Rattle.flow_calls.proofs.Nils.{nil_value, declarators_nil, decls_nil}
-use Rattle.flow_calls.proofs.Adding.{Still, Adds, in_call_activations, adds_still, stops_none, adds_from, adds_then, adds_did, adds_ok}
+use Rattle.flow_calls.proofs.Adding.{Adds, in_call_activations, adds_still, stops_none, adds_from, adds_then, adds_did, adds_ok}
 use Rattle.flow_calls.proofs.Parts.{adds_wanted, adds_turns, adds_stored, adds_stored_again, adds_make}
 use Rattle.flow_calls.proofs.Nodes.{Calling, value_adds}
 

@@ -1,10 +1,10 @@
 -- Before main is called nothing is done but by activation 0, and no call begins.
-use Rattle.std.proofs.Common.{ℕ, ◌≤◌, ◌+◌, List, [], ◌∷◌, ◌++◌, ◌≡◌, refl, sym, ap, ◌∙◌, append-nil, arith, length, Option, Some, None, Result, Ok, Err, Bool, true, false}
-use Rattle.std.specs.Prelude.{replicate, nat_le, if◌then◌else◌}
+use Rattle.std.proofs.Common.{ℕ, ◌≤◌, List, [], ◌∷◌, ◌++◌, ◌≡◌, ap, ◌∙◌, append-nil, arith, Option, Some, None, Result, Ok, Err, true, false}
+use Rattle.std.specs.Prelude.{replicate}
 use Rattle.c_events.specs.declared.events.Event.{Event}
 use Rattle.c_syntax.specs.declared.text.Text.{Text}
 use Rattle.c_syntax.specs.declared.tree.Named.{Named}
-use Rattle.c_syntax.specs.Shape.{TypeOf, DeclShape, decl, DeclaratorShape, declarator, DeclaratorShapes, no_declarators, more_declarators, arrays, function, MaybeInit, ExternalShape, defined, declared}
+use Rattle.c_syntax.specs.Shape.{TypeOf, decl, DeclaratorShape, declarator, DeclaratorShapes, no_declarators, more_declarators, arrays, function, MaybeInit, ExternalShape, defined, declared}
 use Rattle.c_constants.specs.Probes.{probe_number_of}
 use Rattle.c_store.specs.declared.value.Value.{Value}
 use Rattle.c_store.specs.declared.value.Pointer.{Pointer}
@@ -12,15 +12,14 @@ use Rattle.c_store.specs.declared.value.Fault.{Fault}
 use Rattle.c_store.specs.declared.value.MakeErr.{MakeErr}
 use Rattle.c_store.specs.Cells.{Cells, write_of, made, literal_cells}
 use Rattle.c_tables.specs.Tables.{TablesShape}
-use Rattle.c_meaning.specs.declared.end.Flow.{Flow}
-use Rattle.c_meaning.specs.State.{Act, tells, repeats, Call, State, activation, activation_in, did}
+use Rattle.c_meaning.specs.State.{Act, tells, repeats, State, activation, activation_in, did}
 use Rattle.c_meaning.specs.Deeds.{own}
 use Rattle.c_meaning.specs.Results.{Got, Gives, Stops, then_do, settled, present}
 use Rattle.c_meaning.specs.Layout.{cells, variable_kind}
 use Rattle.c_meaning.specs.Firsts.{First, quiet, heard, noted_def}
 use Rattle.c_meaning.specs.Places.{first_cell, next_cell, logs_one, logs, log_def, stored}
 use Rattle.c_meaning.specs.Counts.{past_name, past_defined, past_external}
-use Rattle.c_meaning.specs.Declarations.{new_instance, make, bind_file, next_variable, name_marks, filled, filled_whole, file_cells, file_variable, file_name, file_names}
+use Rattle.c_meaning.specs.Declarations.{new_instance, bind_file, next_variable, name_marks, filled, file_cells, file_variable, file_name, file_names}
 use Rattle.c_meaning.specs.Calls.{Source}
 use Rattle.c_meaning.specs.Runs.{literals_made, external_made, externals_made, all_made}
 use Rattle.c_meaning.proofs.Apart.{own_append}

@@ -1,9 +1,7 @@
 -- What a statement adds is a beginning of a walk of it; of a loop, with as many turns as the knot is tied.
-use Rattle.std.proofs.Common.{ℕ, zero, suc, ◌≤◌, ◌+◌, ◌-◌, List, [], ◌∷◌, ◌≡◌, ◌⊎◌, refl, sym, subst, ap, ◌∙◌, inl, inr, map, length, arith, Option, Some, None, Bool, true, false}
+use Rattle.std.proofs.Common.{ℕ, zero, suc, ◌-◌, List, [], ◌∷◌, ◌≡◌, refl, sym, subst, ◌∙◌, map, length, arith, Some, None, Bool, true, false}
 use Rattle.std.specs.Prelude.{◌||◌, nat_le, if◌then◌else◌}
-use Rattle.c_syntax.specs.declared.tree.ProbeMark.{ProbeMark}
-use Rattle.c_syntax.specs.Shape.{NodeShape, MaybeNode, no_node, one_node, LabelShape, StmtShape, stmt, FormShape, compound, simply, when, either, while, do_while, for, switch, break, continue, return, CompoundShape, braces, ItemShapes, no_items, more_items}
-use Rattle.c_store.specs.declared.value.Value.{Value}
+use Rattle.c_syntax.specs.Shape.{NodeShape, MaybeNode, no_node, one_node, StmtShape, stmt, FormShape, compound, simply, when, either, while, do_while, for, switch, break, continue, return, CompoundShape, braces, ItemShapes, no_items, more_items}
 use Rattle.c_walk.specs.declared.around.Around.{Around}
 use Rattle.c_walk.specs.declared.around.Taken.TheVariants.{Read}
 use Rattle.c_walk.specs.Items.{cases}
@@ -14,27 +12,25 @@ use Rattle.c_walk.specs.Walking.{walk_test, walk_maybe, walk_loop_test, walk_may
 use Rattle.c_walk.specs.Stating.{walk_decls, splits, is_labelled, case_count, has_default, pos_of_stmt, walk_choice, walk_stmt, walk_part}
 use Rattle.c_meaning.specs.declared.end.Flow.{Flow}
 use Rattle.c_meaning.specs.declared.end.Flow.TheVariants.{Next, Break, Continue, Return}
-use Rattle.c_meaning.specs.State.{Bound, State, in_call, opened, tail_of, top_within}
-use Rattle.c_meaning.specs.Results.{Got, Gives, Stops, then_do, turn, needed}
+use Rattle.c_meaning.specs.State.{Bound, State, opened, tail_of}
+use Rattle.c_meaning.specs.Results.{Got, Gives, then_do}
 use Rattle.c_meaning.specs.Firsts.{heard, noted_block, noted_outcome}
-use Rattle.c_meaning.specs.Places.{logs}
 use Rattle.c_meaning.specs.Constants.{case_constants}
 use Rattle.c_meaning.specs.Counts.{past_stmt}
 use Rattle.c_meaning.specs.Knot.{Loop, Knot}
-use Rattle.c_meaning.specs.Expressions.{meaning, tested, log_block}
-use Rattle.c_meaning.specs.Statements.{Entry, here, at_case, at_default, entry_at, scope_opened, scope_closed, out_of_switch, after_one, discarded, step_flow, after_body, loop_test, case_number, chosen_entry, flow, form_flow, compound_flow, items_flow, loop_turn}
+use Rattle.c_meaning.specs.Expressions.{meaning, log_block}
+use Rattle.c_meaning.specs.Statements.{here, at_case, at_default, scope_opened, scope_closed, out_of_switch, after_one, discarded, step_flow, after_body, loop_test, case_number, chosen_entry, flow, form_flow, compound_flow, items_flow, loop_turn}
 use Rattle.c_meaning.specs.Calls.{Source}
 use Rattle.flow_walks.specs.declared.action.Action.TheVariants.{Block, Test}
-use Rattle.flow_walks.specs.Comes as set
-use Rattle.flow_walks.specs.Comes.{Met, act, Comes, ends, emit, emit_if, choice, turns, loop, value}
-use Rattle.flow_walks.specs.Expressions.{node_goes, test_goes, maybe_goes, loop_test_goes, step_goes}
+use Rattle.flow_walks.specs.Comes.{act, Comes, emit, emit_if, choice, turns, loop, value}
+use Rattle.flow_walks.specs.Expressions.{node_goes, maybe_goes, loop_test_goes, step_goes}
 use Rattle.flow_walks.specs.Statements as walks
 use Rattle.flow_walks.specs.Statements.{Exits, in_loop, in_switch, then_goes, stmt_goes, body_goes, part_goes, compound_goes, items_go, at_cases}
 use Rattle.flow_walks.proofs.More.{In, UnderExits, under_loop, loop_test_in, part_in}
 use Rattle.flow_calls.specs.Orderly.{IsOrderly, IsOrderlyMaybe, IsOrderlyStmt, IsOrderlyBody, IsOrderlyPart, IsOrderlyCompound, AreOrderlyItems}
-use Rattle.flow_calls.proofs.Nils.{nil_value, block_nil, value_nil, test_nil, maybe_nil, loop_test_nil, step_nil, decls_nil, NilExits, nil_loop, nil_switch, nil_then, stmt_nil, body_nil, part_nil, compound_nil, items_nil, default_nil, at_cases_nil}
-use Rattle.flow_calls.proofs.Adding.{Still, Adds, in_call_activations, adds_none, adds_still, stops_none, adds_from, adds_then, adds_turn, adds_to, adds_in}
-use Rattle.flow_calls.proofs.Parts.{adds_choice, adds_if, adds_wanted, adds_logs, adds_block, adds_outcome}
+use Rattle.flow_calls.proofs.Nils.{nil_value, loop_test_nil, step_nil, NilExits, nil_loop, nil_switch, nil_then, body_nil, part_nil, items_nil, at_cases_nil}
+use Rattle.flow_calls.proofs.Adding.{Still, Adds, in_call_activations, adds_none, adds_still, adds_from, adds_then, adds_turn, adds_in}
+use Rattle.flow_calls.proofs.Parts.{adds_choice, adds_wanted, adds_logs, adds_block, adds_outcome}
 use Rattle.flow_calls.proofs.Nodes.{Calling, value_adds, tested_adds, arm_adds}
 use Rattle.flow_calls.proofs.Declarations.{decls_adds}
 use Rattle.flow_calls.proofs.Cases.{le_is, le_not, cases_among, values_count, all_constants, Within, chosen_within, from_case, case_in, else_in}

@@ -1,5 +1,5 @@
 -- Each call of a run is a walk of its function.
-use Rattle.std.proofs.Common.{◌≡◌, ◌⊎◌, ◌≤◌, ◌<◌, ℕ, ℤ, suc, List, [], ◌∷◌, ◌++◌, refl, sym, ap, ◌∙◌, subst, inl, inr, append-nil, arith, Option, Some, None, Bool, true, false}
+use Rattle.std.proofs.Common.{◌≡◌, ◌⊎◌, ◌≤◌, ◌<◌, ℕ, ℤ, suc, List, [], refl, sym, ap, subst, inl, inr, append-nil, arith, Option, Some, None, Bool, true, false}
 use Rattle.std.proofs.lemmas.Bool.{true≢false}
 use Rattle.c_store.specs.declared.value.Value.{Value}
 use Rattle.c_meaning.specs.declared.end.End.{End}
@@ -7,22 +7,19 @@ use Rattle.c_meaning.specs.declared.end.End.TheVariants as end
 use Rattle.c_meaning.specs.declared.end.Stop.{Stop}
 use Rattle.c_meaning.specs.declared.end.Stop.TheVariants as stop
 use Rattle.c_meaning.specs.declared.end.Flow.{Flow}
-use Rattle.c_meaning.specs.State.{Act, begins, Bound, Deed, State, start, activation, activation_in}
+use Rattle.c_meaning.specs.State.{Bound, Deed, State, start, activation, activation_in}
 use Rattle.c_meaning.specs.Deeds.{own}
 use Rattle.c_meaning.specs.Results.{Got, Gives, Stops, then_do, present}
-use Rattle.c_meaning.specs.Knot.{Knot}
 use Rattle.c_meaning.specs.Calls.{Source, knot, calls}
 use Rattle.c_meaning.specs.Runs.{Outcome, main_number, all_made, outcome_at, outcome, stopped_end, run_heard, audible}
 use Rattle.c_tables.specs.Tables.{TablesShape}
 use Rattle.c_walk.specs.Units as units
-use Rattle.flow_walks.specs.Comes.{Met, leave}
-use Rattle.flow_walks.specs.Walks.{Goes, actions}
+use Rattle.flow_walks.specs.Walks.{Goes}
 use Rattle.flow_calls.specs.Orderly.{IsOrderlyProgram, AreOrderlyExternals}
 use Rattle.flow_calls.specs.Walking.{IsWalking, IsLeaving, EachCallWalks, EachCallLeaves}
-use Rattle.flow_calls.proofs.Own.{actions_append}
-use Rattle.flow_calls.proofs.Adding.{split, cut, ending, IsCall, Ok, Kept, SilentBy, Silent}
+use Rattle.flow_calls.proofs.Adding.{split, cut, IsCall, Ok, Kept, SilentBy}
 use Rattle.flow_calls.proofs.Early.{Early, EarlyAt, made_early}
-use Rattle.flow_calls.proofs.Routines.{Knotted, knotted}
+use Rattle.flow_calls.proofs.Routines.{knotted}
 
 is_returned : End → Bool
 is_returned (end.Returned z) = true

@@ -1,9 +1,9 @@
 -- A walk may stop before it begins: each set of a part of a function holds the empty list where those behind the part do.
 use Rattle.std.specs.Prelude.{◌||◌}
-use Rattle.std.proofs.Common.{ℕ, zero, suc, ◌+◌, List, [], ◌∷◌, Bool, true, false, Option, Some, None, inl, inr}
+use Rattle.std.proofs.Common.{ℕ, ◌+◌, List, [], ◌∷◌, Bool, true, false, Option, Some, None, inl}
 use Rattle.c_base.specs.declared.place.Pos.{Pos}
 use Rattle.c_syntax.specs.declared.tree.Named.{Named}
-use Rattle.c_syntax.specs.Shape.{NoteShape, bare, known, typed, unary, before, size_of, plain, and, or, assign, comma, NodeShape, node, ExprShape, leaf, paren, call, prefix, size_of_type, cast, suffix, two, choose, probe, index, field, behind, NodeShapes, no_nodes, more_nodes, MaybeNode, no_node, one_node, DeclShape, decl, DeclShapes, no_decls, more_decls, DeclaratorShape, declarator, DeclaratorShapes, no_declarators, more_declarators, arrays, function, MaybeInit, no_init, one_init, InitShape, one, listed, LabelShape, case, default, StmtShape, stmt, FormShape, compound, simply, when, either, while, do_while, for, switch, break, continue, return, CompoundShape, braces, ItemShapes, no_items, more_items}
+use Rattle.c_syntax.specs.Shape.{NoteShape, bare, known, typed, unary, before, size_of, plain, and, or, assign, comma, NodeShape, node, ExprShape, leaf, paren, call, prefix, size_of_type, cast, suffix, two, choose, probe, index, field, behind, NodeShapes, no_nodes, more_nodes, MaybeNode, no_node, one_node, DeclShape, decl, DeclShapes, no_decls, more_decls, DeclaratorShape, declarator, DeclaratorShapes, no_declarators, more_declarators, arrays, function, InitShape, one, listed, LabelShape, case, default, StmtShape, stmt, FormShape, compound, simply, when, either, while, do_while, for, switch, break, continue, return, CompoundShape, braces, ItemShapes, no_items, more_items}
 use Rattle.c_tables.specs.Tables.{TablesShape}
 use Rattle.c_walk.specs.declared.around.Around.{Around}
 use Rattle.c_walk.specs.declared.around.Taken.{Taken}
@@ -12,13 +12,13 @@ use Rattle.c_walk.specs.Items.{Outcomes, both, only_true, only_false, cases}
 use Rattle.c_tables.specs.Rows.{row}
 use Rattle.c_walk.specs.Tests.{outcomes_of_form, choosing, case_values}
 use Rattle.c_walk.specs.Counted.{next_block, next_def, next_use}
-use Rattle.c_walk.specs.Walking.{walk_node, walk_test, walk_arm, walk_maybe}
-use Rattle.c_walk.specs.Walked.{Walked, operand_taken, left_taken, pos_of, with_block, with_block_if, with_decision, with_site, inside, inside_test, with_test, next_decision}
+use Rattle.c_walk.specs.Walking.{walk_node, walk_test, walk_arm}
+use Rattle.c_walk.specs.Walked.{Walked, operand_taken, left_taken, pos_of, with_block_if, with_decision, with_site, inside, inside_test, with_test, next_decision}
 use Rattle.c_walk.specs.Stating.{with_whole_def, walk_declarator, walk_decl, walk_decls, walk_choice, walk_stmt, walk_part, splits, is_labelled, pos_of_stmt, case_count, has_default}
-use Rattle.flow_walks.specs.declared.action.Action.TheVariants.{Define, Use, Block, Test}
-use Rattle.flow_walks.specs.Comes.{Met, act, enter, Comes, ends, emit, emit_if, choice, turns, loop, Ways, value, test, true_way, false_way, decided, evaluated}
+use Rattle.flow_walks.specs.declared.action.Action.TheVariants.{Define, Use, Block}
+use Rattle.flow_walks.specs.Comes.{Met, act, enter, Comes, emit, emit_if, choice, loop, Ways, value, test, true_way, false_way, decided, evaluated}
 use Rattle.flow_walks.specs.Expressions.{holds_place, holds_scalar, used_at, defined_at, reads, read_form, is_defined, changed_at, entered, node_goes, form_goes, test_goes, arm_goes, nodes_go, maybe_goes, loop_test_goes, step_goes}
-use Rattle.flow_walks.specs.Statements.{init_goes, maybe_init_goes, declarator_goes, declarators_go, decl_goes, decls_go, Exits, in_loop, in_switch, then_goes, cases_go, stmt_goes, body_goes, part_goes, compound_goes, items_go, at_cases, at_default}
+use Rattle.flow_walks.specs.Statements.{init_goes, declarator_goes, declarators_go, decl_goes, decls_go, Exits, in_loop, in_switch, then_goes, cases_go, stmt_goes, body_goes, part_goes, compound_goes, items_go, at_cases, at_default}
 
 pub record NilWays (m : Ways) : Type 0 where
   pub evaluated_nil : (o : Outcomes) → evaluated o m []

@@ -1,6 +1,6 @@
 -- What an expression adds is a beginning of a walk of it.
-use Rattle.std.proofs.Common.{ℕ, ℤ, ◌+◌, pos, List, [], ◌∷◌, ◌++◌, ◌≡◌, refl, sym, inl, inr, Option, Some, None, Bool, true, false}
-use Rattle.std.specs.Prelude.{not, drop, option_map, length, nat_lt, is_some, if◌then◌else◌}
+use Rattle.std.proofs.Common.{ℕ, ◌+◌, pos, List, [], ◌∷◌, ◌≡◌, refl, sym, inl, inr, Option, Some, None, Bool, true, false}
+use Rattle.std.specs.Prelude.{not, drop, length, nat_lt, is_some, if◌then◌else◌}
 use Rattle.std.proofs.lemmas.Bool.{true≢false}
 use Rattle.c_base.specs.declared.place.Pos.{Pos}
 use Rattle.c_base.specs.declared.place.IntKind.TheVariants.{Char}
@@ -17,12 +17,12 @@ use Rattle.c_constants.specs.Numbers.{number_of}
 use Rattle.c_store.specs.declared.value.Value.{Value}
 use Rattle.c_store.specs.declared.value.Value.TheVariants.{Int, At}
 use Rattle.c_store.specs.declared.value.Pointer.{Pointer}
-use Rattle.c_tables.specs.Tables.{FunctionShape, TablesShape}
+use Rattle.c_tables.specs.Tables.{FunctionShape}
 use Rattle.c_tables.specs.Rows.{row}
 use Rattle.c_walk.specs.declared.around.Around.{Around}
 use Rattle.c_walk.specs.declared.around.Taken.{Taken}
 use Rattle.c_walk.specs.declared.around.Taken.TheVariants.{Read, Written, Changed, Addressed}
-use Rattle.c_walk.specs.Items.{Outcomes, both, only_true, only_false}
+use Rattle.c_walk.specs.Items.{both, only_true, only_false}
 use Rattle.c_walk.specs.Places.{has_scalar}
 use Rattle.c_walk.specs.Tests.{is_logical, is_logical_form, outcome_of, number_constant, outcomes_of_form}
 use Rattle.c_walk.specs.Walked.{Walked, with_block, pos_of, next_decision, inside_test, with_test, with_site}
@@ -31,19 +31,18 @@ use Rattle.c_walk.specs.Walking.{walk_node, walk_test, walk_arm}
 use Rattle.c_meaning.specs.State.{tells, Bound, State, activation, did}
 use Rattle.c_meaning.specs.Results.{Got, Gives, Stops, then_do, turn, untyped, settled, needed}
 use Rattle.c_meaning.specs.Operators.{converted, is_true, operated, stepped_by_one, element_pointer, of_one, target, pointed}
-use Rattle.c_meaning.specs.Firsts as firsts
 use Rattle.c_meaning.specs.Firsts.{heard, outcome, noted_block}
-use Rattle.c_meaning.specs.Places.{room, first_cell, marks, fetched, loaded}
+use Rattle.c_meaning.specs.Places.{room, first_cell, marks, fetched}
 use Rattle.c_meaning.specs.Constants.{type_at, kind_noted}
 use Rattle.c_meaning.specs.Knot.{Knot}
 use Rattle.c_meaning.specs.Builtins.{built_in, called, called_row, params_of}
-use Rattle.c_meaning.specs.Expressions.{Meaning, gives, operand, number_value, literal_value, noted_value, cast_value, tested, arm, last_test, written, assigned, stepped_from, step_value, meaning, form_meaning, arguments}
+use Rattle.c_meaning.specs.Expressions.{gives, operand, number_value, literal_value, noted_value, cast_value, tested, arm, last_test, written, stepped_from, step_value, meaning, form_meaning, arguments}
 use Rattle.c_meaning.specs.Calls.{Source}
 use Rattle.flow_walks.specs.declared.action.Action.TheVariants.{Define, Use, Block, Test}
-use Rattle.flow_walks.specs.Comes.{Met, act, enter, Comes, emit, emit_if, choice, Ways, value, test, true_way, false_way, decided, evaluated}
+use Rattle.flow_walks.specs.Comes.{Met, act, enter, Comes, emit, emit_if, choice, Ways, value, test, true_way, false_way, evaluated}
 use Rattle.flow_walks.specs.Expressions.{holds_place, form_holds_place, holds_scalar, form_holds_scalar, used_at, defined_at, reads, read_form, is_defined, entered, node_goes, form_goes, test_goes, arm_goes, nodes_go}
 use Rattle.flow_calls.specs.Orderly.{is_used, form_is_used, IsOrderly, HasOrder, AreOrderly}
-use Rattle.flow_calls.proofs.Nils.{NilWays, nil_value, nil_test, read_nil, used_nil, defined_nil, entered_nil, node_nil, form_nil, value_nil, test_nil, arm_nil, nodes_nil}
+use Rattle.flow_calls.proofs.Nils.{NilWays, nil_value, nil_test, read_nil, used_nil, defined_nil, entered_nil, form_nil, value_nil, test_nil, arm_nil, nodes_nil}
 use Rattle.flow_calls.proofs.Adding.{AddsBy, Adds, adds_still, stops_none, adds_then, adds_turn, adds_told, adds_to, adds_in, SilentBy, Silent}
 use Rattle.flow_calls.proofs.Parts.{adds_if, adds_choice, adds_settled, adds_needed, adds_wanted, adds_block, adds_loaded, adds_stored, adds_fetched, adds_variable, adds_field, adds_built_in}
 

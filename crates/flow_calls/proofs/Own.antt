@@ -2,7 +2,7 @@
 use Rattle.std.proofs.Common.{◌≡◌, ℕ, List, [], ◌∷◌, ◌++◌, Bool, true, false, refl, sym, ap, arith}
 use Rattle.std.specs.Prelude.{nat_eq, if◌then◌else◌}
 use Rattle.std.proofs.lemmas.Bool.{ne_eqb, true≢false}
-use Rattle.c_meaning.specs.State.{Act, begins, makes, tells, repeats, Deed}
+use Rattle.c_meaning.specs.State.{Act, begins, makes, tells, repeats}
 use Rattle.c_meaning.specs.Deeds.{own}
 use Rattle.flow_walks.specs.declared.action.Action.TheVariants.{Kill}
 use Rattle.flow_walks.specs.Comes.{Met, act, enter, leave}

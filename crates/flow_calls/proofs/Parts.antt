@@ -1,6 +1,6 @@
 -- What the small parts of the meaning add: results, probes, reading, writing, and the functions that every program has.
-use Rattle.std.proofs.Common.{ℕ, ◌-◌, List, [], ◌∷◌, ◌++◌, ◌≡◌, refl, Option, Some, None, Result, Ok, Err, Bool, true, false}
-use Rattle.std.specs.Prelude.{nat_le, nat_lt, bytes_eq, replicate, ◌+◌, length, if◌then◌else◌}
+use Rattle.std.proofs.Common.{ℕ, ◌-◌, List, [], ◌∷◌, refl, Option, Some, None, Result, Ok, Err, Bool, true, false}
+use Rattle.std.specs.Prelude.{nat_le, bytes_eq, replicate, if◌then◌else◌}
 use Rattle.c_events.specs.declared.events.Event.TheVariants as event
 use Rattle.c_syntax.specs.declared.text.Text.{Text}
 use Rattle.c_syntax.specs.Shape.{TypeOf, int, pointer, array, structure, nothing, NoteShape, bare, typed, known}
@@ -20,7 +20,7 @@ use Rattle.c_walk.specs.Walked.{Walked, next_decision}
 use Rattle.c_walk.specs.Counted.{next_block, next_def, next_use}
 use Rattle.c_meaning.specs.declared.end.Stop.TheVariants as stop
 use Rattle.c_meaning.specs.State.{tells, repeats, Bound, State, activation, instance_of}
-use Rattle.c_meaning.specs.Results.{Got, Gives, Stops, then_do, turns, untyped, settled, present, needed}
+use Rattle.c_meaning.specs.Results.{Got, Gives, Stops, turns, untyped, settled, present, needed}
 use Rattle.c_meaning.specs.Layout.{Part, cells, part_in}
 use Rattle.c_meaning.specs.Firsts.{heard, cell_at, noted_block, noted_outcome, noted_use, noted_def}
 use Rattle.c_meaning.specs.Places.{whole, logs_one, logs, log_use, log_def, loaded, stored, fetched, variable_place, part_place, field_place, room, has_part, selected_place}
@@ -29,7 +29,7 @@ use Rattle.c_meaning.specs.Declarations.{new_instance, make}
 use Rattle.flow_walks.specs.declared.action.Action.TheVariants.{Define, Use, Block, Test}
 use Rattle.flow_walks.specs.Comes.{Met, act, Comes, emit, emit_if, choice}
 use Rattle.c_meaning.specs.Calls.{Source}
-use Rattle.flow_calls.proofs.Adding.{Still, Adds, still_same, adds_none, adds_still, stops_at, stops_none, adds_from, adds_then, adds_told, adds_repeated}
+use Rattle.flow_calls.proofs.Adding.{Still, Adds, adds_none, adds_still, stops_at, stops_none, adds_from, adds_then, adds_told, adds_repeated}
 
 module _ (P : Source) (F : List Bound) where
   -- ---- results

@@ -1,5 +1,5 @@
 -- Each call, from its parameters to its return, is a walk of its function; and the knot, as often as it is tied.
-use Rattle.std.proofs.Common.{ℕ, zero, suc, List, [], ◌∷◌, ◌++◌, ◌≡◌, refl, sym, ap, subst, inl, inr, append-nil, length, map, Option, Some, None, Bool, true, false, arith}
+use Rattle.std.proofs.Common.{ℕ, zero, suc, List, [], ◌∷◌, ◌++◌, ◌≡◌, refl, sym, subst, inl, inr, append-nil, length, map, Option, Some, None, Bool, true, false, arith}
 use Rattle.std.specs.Prelude.{nat_eq, nat_lt, if◌then◌else◌}
 use Rattle.std.proofs.lemmas.Bool.Decides.{nat_tests}
 use Rattle.c_syntax.specs.declared.tree.ProbeMark.{ProbeMark}
@@ -8,31 +8,31 @@ use Rattle.c_store.specs.declared.value.Value.{Value}
 use Rattle.c_tables.specs.Rows.{row, text_of}
 use Rattle.c_walk.specs.declared.around.Around.{Around}
 use Rattle.c_walk.specs.Walked.{Walked, with_block}
-use Rattle.c_walk.specs.Counted.{next_block, next_def}
+use Rattle.c_walk.specs.Counted.{next_block}
 use Rattle.c_walk.specs.Stating.{with_variable}
 use Rattle.c_walk.specs.Units.{function_of, in_function, define_decl, define_parameters, walk_external}
 use Rattle.c_meaning.specs.declared.end.Flow.{Flow}
 use Rattle.c_meaning.specs.declared.end.Flow.TheVariants.{Next, Break, Continue, Return}
 use Rattle.c_meaning.specs.declared.end.Stop.TheVariants as stop
-use Rattle.c_meaning.specs.State.{Act, Bound, State, tail_of, with_bound}
+use Rattle.c_meaning.specs.State.{Bound, State, tail_of, with_bound}
 use Rattle.c_meaning.specs.Results.{Got, Gives, Stops, then_do, present}
 use Rattle.c_meaning.specs.Layout.{variable_kind}
 use Rattle.c_meaning.specs.Firsts.{heard, noted_block}
 use Rattle.c_meaning.specs.Lasting.{activations}
 use Rattle.c_meaning.specs.Knot.{Knot}
 use Rattle.c_meaning.specs.Expressions.{log_block}
-use Rattle.c_meaning.specs.Declarations.{make, bind}
+use Rattle.c_meaning.specs.Declarations.{bind}
 use Rattle.c_meaning.specs.Calls.{Source, Routine, given_variable, given, given_params, given_all, past_signature, body_flow, left, result_in, returned, called_found, routine_in, knot}
 use Rattle.c_meaning.specs.Runs.{audible}
 use Rattle.c_walk.specs.Units as units
-use Rattle.flow_walks.specs.declared.action.Action.TheVariants.{Define, Block}
+use Rattle.flow_walks.specs.declared.action.Action.TheVariants.{Block}
 use Rattle.flow_walks.specs.Comes.{Met, act, leave, Comes, ends, emit}
 use Rattle.flow_walks.specs.Statements.{compound_goes}
 use Rattle.flow_walks.specs.Walks.{parameter_goes, parameters_of, parameter_line, parameter_lines, parameters_go, body_exits, function_goes, externals_go, Goes}
 use Rattle.flow_walks.proofs.More.{In}
 use Rattle.flow_calls.specs.Orderly.{IsOrderlyFunction, AreOrderlyExternals}
 use Rattle.flow_calls.proofs.Nils.{NilExits, compound_nil}
-use Rattle.flow_calls.proofs.Adding.{in_call_activations, back_activations, ending, Ok, Kept, Onward, AddsBy, Adds, kept_cut, adds_still, stops_none, adds_from, adds_then, adds_turn, begun, begun_ok, call_kept, kept_left, SilentBy, Silent, silent_stops}
+use Rattle.flow_calls.proofs.Adding.{in_call_activations, back_activations, Ok, Kept, Onward, AddsBy, Adds, kept_cut, adds_still, stops_none, adds_from, adds_then, adds_turn, begun, begun_ok, call_kept, kept_left, SilentBy, Silent, silent_stops}
 use Rattle.flow_calls.proofs.Parts.{adds_present, adds_make, adds_logs, adds_block}
 use Rattle.flow_calls.proofs.Nodes.{Calling}
 use Rattle.flow_calls.proofs.Declarations.{scalar_adds}

@@ -1,5 +1,5 @@
 -- A worked program: what main does by itself is a walk; where the run stops it is the beginning of one; and a list that is none.
-use Rattle.std.proofs.Common.{◌≡◌, ℕ, ◌+◌, List, [], ◌∷◌, Option, Some, None, refl, inl, inr, ap, arith}
+use Rattle.std.proofs.Common.{◌≡◌, ℕ, [], ◌∷◌, Option, Some, None, refl, inl, inr, ap, arith}
 use Rattle.c_base.specs.declared.place.Pos.{Pos}
 use Rattle.c_base.specs.declared.place.IntKind.TheVariants.{Int}
 use Rattle.c_events.specs.declared.events.Event.TheVariants as event

@@ -1,5 +1,5 @@
 -- The pairs that a run makes are listed.
-use Rattle.std.proofs.Common.{ℕ, ◌<◌, ◌≤◌, List, [], ◌∷◌, ◌++◌, ◌≡◌, ◌⊎◌, inl, inr, refl, subst, sym, ap, ◌∙◌, append_assoc, arith, Option, Some, None, Bool, true, false}
+use Rattle.std.proofs.Common.{ℕ, List, [], ◌∷◌, ◌++◌, ◌≡◌, ◌⊎◌, inl, inr, refl, subst, sym, ap, ◌∙◌, append_assoc, arith, Option, Some, None, Bool, true, false}
 use Rattle.std.specs.Prelude.{nat_eq, ◌&&◌, Contains, if◌then◌else◌}
 use Rattle.std.proofs.lemmas.Bool.{true≢false}
 use Rattle.std.proofs.lemmas.List.Elements.{Contains-push_cases}
@@ -8,7 +8,7 @@ use Rattle.c_events.specs.declared.events.Event.{Event}
 use Rattle.c_events.specs.declared.events.Event.TheVariants.{Block, Def, Use, Test}
 use Rattle.c_syntax.specs.declared.text.Text.{Text}
 use Rattle.c_meaning.specs.State.{Act, begins, makes, tells, repeats, Deed, or_else}
-use Rattle.c_meaning.specs.Deeds.{told_by, told, own}
+use Rattle.c_meaning.specs.Deeds.{told, own}
 use Rattle.c_meaning.specs.Calls.{Source}
 use Rattle.c_meaning.proofs.Apart.{told_append, own_append}
 use Rattle.flow_walks.specs.declared.action.Action.{Action}
@@ -17,11 +17,11 @@ use Rattle.flow_walks.specs.Walks.{Walk}
 use Rattle.flow_calls.specs.Readings.{read_as, readings}
 use Rattle.flow_calls.specs.Walking.{IsWalking}
 use Rattle.flow_calls.proofs.Own.{own_here, readings_append}
-use Rattle.flow_misses.specs.Placing.{Local, Sites, given_in, given_number, made_in, made_by, last_made, number_of, IsNewest, InPlace, IsDefined, DefinedAt, UsedAt, IsRepeated, RepeatedAt, At, AreInPlace}
+use Rattle.flow_misses.specs.Placing.{Local, Sites, given_in, given_number, made_in, made_by, last_made, number_of, IsNewest, InPlace, IsDefined, DefinedAt, UsedAt, IsRepeated, At, AreInPlace}
 use Rattle.flow_misses.specs.Pairs.{HasPair, IsStrong, IsListed, PairsAreListed}
-use Rattle.flow_misses.proofs.Lists.{heads, tails, longer, cancel, snoc_split, two_cuts, Cuts, same, before, behind, or_none, some_not, some_is, are_equal, if_on, if_some, same_eq}
-use Rattle.flow_misses.proofs.Made.{last_append, last_without, Maker, made_there}
-use Rattle.flow_misses.proofs.Told.{deed, Cut, cut, There, actions_there, own_there, kill_is, define_is}
+use Rattle.flow_misses.proofs.Lists.{tails, longer, cancel, snoc_split, two_cuts, Cuts, same, before, behind, or_none, some_not, some_is, if_on, if_some, same_eq}
+use Rattle.flow_misses.proofs.Made.{last_append, last_without, made_there}
+use Rattle.flow_misses.proofs.Told.{deed, cut, There, actions_there, own_there, kill_is, define_is}
 
 -- a parameter's definition gives the instance
 given_facts : (b t : Bool) (c : Cell) (j : ℕ) → (if b && t then Some c.instance else None) ≡ Some j → (b ≡ true) × (c.instance ≡ j)

@@ -1,5 +1,5 @@
 -- From events to what was done: where events are cut, deeds are; and from the readings of an activation to its acts.
-use Rattle.std.proofs.Common.{ℕ, List, [], ◌∷◌, ◌++◌, ◌≡◌, ◌⊎◌, inl, inr, refl, sym, ap, ◌∙◌, Some, None, Option, Bool, true, false}
+use Rattle.std.proofs.Common.{ℕ, List, [], ◌∷◌, ◌++◌, ◌≡◌, ◌⊎◌, inl, inr, refl, ap, ◌∙◌, Some, None, Option, Bool, true, false}
 use Rattle.std.specs.Prelude.{nat_eq, if◌then◌else◌}
 use Rattle.c_events.specs.declared.events.Cell.{Cell}
 use Rattle.c_events.specs.declared.events.Event.{Event}
@@ -7,7 +7,7 @@ use Rattle.c_events.specs.declared.events.Event.TheVariants as event
 use Rattle.c_meaning.specs.State.{Act, begins, makes, tells, repeats, Deed}
 use Rattle.c_meaning.specs.Deeds.{told_by, told, own}
 use Rattle.flow_walks.specs.declared.action.Action.{Action}
-use Rattle.flow_walks.specs.declared.action.Action.TheVariants.{Define, Use, Block, Test, Kill, Nothing}
+use Rattle.flow_walks.specs.declared.action.Action.TheVariants.{Define, Use, Block, Test, Kill}
 use Rattle.flow_calls.specs.Readings.{action_of, read_as, readings}
 use Rattle.flow_misses.proofs.Lists.{heads, tails, longer, some_not, some_is, are_equal}
 

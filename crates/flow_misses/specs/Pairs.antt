@@ -1,5 +1,5 @@
 -- Pairs of a definition and a use: those that a run makes, and those that walks allow.
-use Rattle.std.specs.Prelude.{◌≡◌, ◌⊎◌, ◌≤◌, ◌++◌, ℕ, Contains, List, [], ◌∷◌, Option, Some}
+use Rattle.std.specs.Prelude.{◌≡◌, ◌⊎◌, ◌≤◌, ◌++◌, ℕ, Contains, List, [], ◌∷◌, Some}
 use Rattle.c_events.specs.declared.events.Cell.{Cell}
 use Rattle.c_events.specs.declared.events.Event.{Event}
 use Rattle.c_events.specs.declared.events.Event.TheVariants.{Def, Use}

@@ -3,7 +3,7 @@
 use Rattle.std.specs.Prelude.{◌≡◌, ◌⊎◌, ◌<◌, ◌≤◌, ◌++◌, ◌&&◌, ℕ, Contains, List, [], ◌∷◌, nat_eq, Bool, true, false, Option, Some, None, if◌then◌else◌}
 use Rattle.c_events.specs.declared.events.Cell.{Cell}
 use Rattle.c_events.specs.declared.events.Event.{Event}
-use Rattle.c_events.specs.declared.events.Event.TheVariants.{Block, Def, Use, Test}
+use Rattle.c_events.specs.declared.events.Event.TheVariants.{Def, Use}
 use Rattle.c_syntax.specs.declared.text.Text.{Text}
 use Rattle.c_meaning.specs.State.{Act, begins, makes, tells, repeats, Deed, or_else}
 use Rattle.c_meaning.specs.Deeds.{own}
