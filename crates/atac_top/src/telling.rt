@@ -45,15 +45,28 @@ fn view_of(
     view: View,
     text: &[u8],
     items: &Items,
-    sum: &Trace,
+    sum: Trace,
 ) -> Result<Vec<u8>, NoMemory>
-    ensures { IfOk result (λ told. (digest : List ℕ) (ts : List Trace) → IsSum digest ts sum.now → told.items ≡ view_text view text.now items.now ts) }
+    ensures { IfOk result (λ told. (digest : List ℕ) (ts : List Trace) → IsSum digest ts sum → told.items ≡ view_text view text.now items.now ts) }
 {
     match view {
-        View::Report => report(alloc, items, sum.tally.facts()),
-        View::Show => show(alloc, text, items, sum.tally.facts()),
-        View::Hits => hits(alloc, items, &sum.tally, sum.old_runs == 0),
-        View::Json => json_line(alloc, items, sum.tally.facts()),
+        View::Report => {
+            let facts = sum.tally.facts(alloc)?;
+            report(alloc, items, &facts)
+        }
+        View::Show => {
+            let facts = sum.tally.facts(alloc)?;
+            show(alloc, text, items, &facts)
+        }
+        View::Hits => {
+            let exact = sum.old_runs == 0;
+            let tally = sum.tally.tally(alloc)?;
+            hits(alloc, items, &tally, exact)
+        }
+        View::Json => {
+            let facts = sum.tally.facts(alloc)?;
+            json_line(alloc, items, &facts)
+        }
     }
 }
 
@@ -76,6 +89,6 @@ pub fn tell<'a, S: Shelf, W: Sink>(
     };
     let mut sum = no_runs(alloc, digest_of(source.as_slice()));
     join(alloc, shelf, traces, &mut sum)?;
-    let told = view_of(alloc, view, source.as_slice(), &items, &sum)?;
+    let told = view_of(alloc, view, source.as_slice(), &items, sum)?;
     put(out, told.as_slice())
 }

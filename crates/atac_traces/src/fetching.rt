@@ -12,8 +12,8 @@ use trace_file::{DecodeRefusal, Trace, decode};
 const TRACE_MOST: u64 = 67_108_864;
 
 // The trace in the bytes of a file of this name.
-fn read_in<'a>(alloc: Global, name: &'a str, bytes: &[u8]) -> Result<Trace, Stop<'a>>
-    ensures { ReadsAs bytes.now name.now result }
+fn read_in<'a>(alloc: Global, name: &'a str, bytes: Vec<u8>) -> Result<Trace, Stop<'a>>
+    ensures { ReadsAs bytes.items name.now result }
 {
     match decode(alloc, bytes) {
         Ok(trace) => Ok(trace),
@@ -35,7 +35,7 @@ pub fn fetch_any<'a, S: Shelf>(
     ensures { FetchesBy (S.state shelf.old) (S.state shelf.new) name.now (λ found. AnyGives (S.state shelf.old) (S.state shelf.new) name.now found result) }
 {
     let bytes = fetch(alloc, shelf, name, TRACE_MOST)?;
-    read_in(alloc, name, bytes.as_slice())
+    read_in(alloc, name, bytes)
 }
 
 // The trace, where it is of the program with this digest.

@@ -7,10 +7,9 @@ ghost use Rattle.atac_traces.specs.Joins.{Joins};
 
 use crate::fetching::fetch_trace;
 use atac_base::outside::Shelf;
-use atac_facts::tally::Tally;
 use atac_steps::Stop;
 use std::alloc::Global;
-use trace_file::{Trace, add_trace};
+use trace_file::{Rows, Trace, add_trace};
 
 /// The trace of a program without runs.
 pub fn no_runs(alloc: Global, digest: [u8; 32]) -> Trace
@@ -20,7 +19,7 @@ pub fn no_runs(alloc: Global, digest: [u8; 32]) -> Trace
         digest,
         runs: 0,
         old_runs: 0,
-        tally: Tally::new(alloc),
+        tally: Rows::new(alloc),
     }
 }
 
@@ -35,11 +34,11 @@ fn numbers_fit(trace: &Trace)
 {
     fits(trace.runs);
     fits(trace.old_runs);
-    let _rows = trace.tally.rows();
+    trace.tally.are_small();
 }
 
-/// Fetches the traces one after the other and adds each to the sum, which says of which program they have to be. No two
-/// of them stand in memory together.
+/// Fetches the traces one after the other and adds each to the sum, which says of which program they have to be. Beside
+/// the sum no two of them stand in memory together.
 pub fn join<'a, S: Shelf>(
     alloc: Global,
     shelf: &mut S,
@@ -51,7 +50,7 @@ pub fn join<'a, S: Shelf>(
     numbers_fit(sum);
     for name in names {
         let trace = fetch_trace(alloc, shelf, name.as_str(), &sum.digest)?;
-        add_trace(sum, &trace)?;
+        add_trace(alloc, sum, trace)?;
     }
     Ok(())
 }

@@ -153,7 +153,7 @@ no_arguments t k n [] ts s done go i = ap (λ ys. then_do (called t k n ys s) go
 no_arguments t k n (x ∷ xs) ts s done go i = absurd (omega (arith, i))
 
 -- an argument that was had at once
-pub argument_taken : (t : TablesShape) (k : Knot) (n : NoteShape) (a : Node) (xs rest : List Node) (ts us : List TypeOf) (s s' : State) (v p : Value) (done done' : List Value) (go : Option Value → State → Got (Option Value)) → value t k (node_shape a) s ≡ then_do (replied (reply.Value v) s') gives → xs ≡ a ∷ rest → us ≡ drop 1 ts → p ≡ as_parameter ts v → done' ≡ done ++ p ∷ [] → then_do (then_do (arguments t k (node_list rest) us (quiet 0) s') (λ vs. called t k n (done' ++ vs))) go ≡ then_do (then_do (arguments t k (node_list xs) ts (quiet 0) s) (λ vs. called t k n (done ++ vs))) go
+pub argument_taken : (t : TablesShape) (k : Knot) (n : NoteShape) (a : Node) (xs rest : List Node) (ts us : List TypeOf) (s s' : State) (v p : Value) (done done' : List Value) (go : Option Value → State → Got (Option Value)) → value t k (node_shape a) s ≡ gives v s' → xs ≡ a ∷ rest → us ≡ drop 1 ts → p ≡ as_parameter ts v → done' ≡ done ++ p ∷ [] → then_do (then_do (arguments t k (node_list rest) us (quiet 0) s') (λ vs. called t k n (done' ++ vs))) go ≡ then_do (then_do (arguments t k (node_list xs) ts (quiet 0) s) (λ vs. called t k n (done ++ vs))) go
 argument_taken t k n a xs rest ts us s s' v p done done' go e i j l m =
     let q = arguments t k (node_list rest) (drop 1 ts) (quiet 0) s' in
     let w = as_parameter ts v in

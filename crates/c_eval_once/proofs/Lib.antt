@@ -1,4 +1,3 @@
 pub mod Once
 pub mod Told
 pub mod Standing
-pub mod Elements

@@ -32,10 +32,11 @@ use Rattle.c_events.specs.declared.events.Event.{Event}
 use Rattle.c_world.specs.declared.world.World.{World}
 use Rattle.c_world.specs.World.{state_of}
 use Rattle.c_meaning.specs.declared.end.Stop.{Stop}
-use Rattle.c_eval_once.specs.declared.reply.Reply.{Reply}
-use Rattle.c_eval_once.specs.declared.reply.Reply.TheVariants as reply
-use Rattle.c_eval_once.specs.Parts.{value, one_more, replied}
-use Rattle.c_eval_once.specs.Forms.{scalar_value, IsFewer}
+use Rattle.c_eval_once.specs.declared.reply.Answer.{Answer}
+use Rattle.c_eval_once.specs.declared.reply.Answer.TheVariants as answer
+use Rattle.c_eval_once.specs.declared.reply.Spot.{Spot}
+use Rattle.c_eval_once.specs.Parts.{value, one_more}
+use Rattle.c_eval_once.specs.Forms.{scalar_value, IsFewer, Meets, Loads, Stands}
 
 -- ---- turns
 
@@ -43,16 +44,30 @@ use Rattle.c_eval_once.specs.Forms.{scalar_value, IsFewer}
 pub no_turns : (v w : World) → ((h : List Event) → (v.turns ≡ 0) × (state_of w h ≡ state_of v h)) → w.turns ≤ v.turns
 no_turns v w none = let e : w.turns ≡ v.turns = ap (λ s. s.turns) (none []).1 in omega (arith, e)
 
-pub fewer : (r : Reply) (n m : ℕ) → n < m → IsFewer r n m
-fewer (reply.Value v) n m lt = lt
-fewer (reply.Stopped why) n m lt = tt
+pub fewer : (a : Answer) (n m : ℕ) → n < m → IsFewer a n m
+fewer (answer.Value v) n m lt = lt
+fewer (answer.Stopped why) n m lt = tt
+fewer answer.NoMemory n m lt = tt
+
+-- ---- answers
+
+pub meets_as : (a : Answer) (s : State) (g g' : Got (Option Value)) → g ≡ g' → Meets a s g' → Meets a s g
+meets_as a s g g' e m = rw e m
+
+pub loads_gives : (a : Answer) (s : State) (g : Got Value) → Loads a s g → Meets a s (then_do g gives)
+loads_gives (answer.Value v) s g e = ap (λ g. then_do g gives) e
+loads_gives (answer.Stopped why) s g e = ap (λ g. then_do g gives) e
+loads_gives answer.NoMemory s g e = tt
+
+pub stands_as : (a : Spot) (s : State) (g g' : Got Pointer) → g ≡ g' → Stands a s g' → Stands a s g
+stands_as a s g g' e m = rw e m
 
 -- ---- what is taken at once, for what waits for it
 
-pub once_given : (r : Got (Option Value)) (v : Value) (s : State) (go : Option Value → State → Got (Option Value)) → r ≡ then_do (replied (reply.Value v) s) gives → go (Some v) s ≡ then_do r go
+pub once_given : (r : Got (Option Value)) (v : Value) (s : State) (go : Option Value → State → Got (Option Value)) → r ≡ gives v s → go (Some v) s ≡ then_do r go
 once_given r v s go e = rw e refl
 
-pub once_stopped : (r : Got (Option Value)) (why : Stop) (s : State) (go : Option Value → State → Got (Option Value)) → r ≡ then_do (replied (reply.Stopped why) s) gives → Stops why s ≡ then_do r go
+pub once_stopped : (r : Got (Option Value)) (why : Stop) (s : State) (go : Option Value → State → Got (Option Value)) → r ≡ Stops why s → Stops why s ≡ then_do r go
 once_stopped r why s go e = rw e refl
 
 pub spot_given : (r : Got Pointer) (q : Pointer) (s : State) (go : Pointer → State → Got (Option Value)) → r ≡ Gives q s → go q s ≡ then_do r go
@@ -121,7 +136,7 @@ a_scalar v j r s s' e i f = rw (e, sym i, sym f) refl
 pub array_is : (t : TablesShape) (k : Knot) (p o : Pos) (y e : TypeOf) (m v : ℕ) (x : Text) (s : State) → y ≡ array e m → value t k (node p o (typed y (Some v)) (leaf (name x))) s ≡ then_do (turn s (variable_place t y v)) (λ q s. then_do (first_element t e m q s) (λ q. gives (At q)))
 array_is t k p o y e m v x s is = rw is refl
 
-pub array_named : (t : TablesShape) (k : Knot) (p o : Pos) (n : Note) (f : Expr) (y : CType) (i : Option ℕ) (v : ℕ) (x : Text) (s s' : State) (r : Reply) → f ≡ Name x → n ≡ Typed y i → i ≡ Some v
-    → ((p o : Pos) (x : Text) → value t k (node p o (typed (type_of y) (Some v)) (leaf (name x))) s ≡ then_do (replied r s') gives)
-    → value t k (node p o (note_shape n) (expr_shape f)) s ≡ then_do (replied r s') gives
-array_named t k p o n f y i v x s s' r is noted same h = rw (is, noted, same) (h p o x)
+pub array_named : (t : TablesShape) (k : Knot) (p o : Pos) (n : Note) (f : Expr) (y : CType) (i : Option ℕ) (v : ℕ) (x : Text) (s s' : State) (a : Answer) → f ≡ Name x → n ≡ Typed y i → i ≡ Some v
+    → ((p o : Pos) (x : Text) → Meets a s' (value t k (node p o (typed (type_of y) (Some v)) (leaf (name x))) s))
+    → Meets a s' (value t k (node p o (note_shape n) (expr_shape f)) s)
+array_named t k p o n f y i v x s s' a is noted same h = rw (is, noted, same) (h p o x)

@@ -26,9 +26,11 @@ use Rattle.c_meaning.specs.Knot.{Knot}
 use Rattle.c_meaning.specs.Expressions.{gives}
 use Rattle.c_world.specs.Steps.{found}
 use Rattle.c_world.specs.declared.world.World.{World}
-use Rattle.c_eval_once.specs.declared.reply.Reply.{Reply}
-use Rattle.c_eval_once.specs.declared.reply.Reply.TheVariants as reply
-use Rattle.c_eval_once.specs.Parts.{value, place, replied}
+use Rattle.c_eval_once.specs.declared.reply.Answer.{Answer}
+use Rattle.c_eval_once.specs.declared.reply.Answer.TheVariants as answer
+use Rattle.c_eval_once.specs.declared.reply.Spot.{Spot}
+use Rattle.c_eval_once.specs.declared.reply.Spot.TheVariants as spot
+use Rattle.c_eval_once.specs.Parts.{value, place}
 
 -- the program, the limit of turns and the names are the same
 pub record Kept (v w : World) : Type 0 where
@@ -111,33 +113,6 @@ is_name note.Bare = true
 abbrev pub IsNamed : Expr → Type 0
 IsNamed f = (x : Text) × (f ≡ Name x)
 
--- what is evaluated at once: constants and variables; operators but calls, casts, `?:` and commas; elements and what pointers point to;
--- assignments to these, and steps over them
-abbrev mutual
-  pub is_direct : Note → Expr → Bool
-  is_direct n (Number x) = true
-  is_direct n (Char c) = true
-  is_direct n (Str x) = true
-  is_direct n (Name x) = is_name n
-  is_direct n (SizeOf' _ p o m a) = true
-  is_direct n (SizeOfType y) = true
-  is_direct n (Paren' _ p o m a) = is_direct m a
-  is_direct n (Binary' u _ p o m a _ p' o' m' b) = if is_direct m a then is_direct m' b else false
-  is_direct n (And' _ p o m a _ p' o' m' b) = if is_direct m a then is_direct m' b else false
-  is_direct n (Or' _ p o m a _ p' o' m' b) = if is_direct m a then is_direct m' b else false
-  is_direct n (Unary' u _ p o m a) = if is_address u then false else if is_valued n then is_direct m a else false
-  is_direct n (Index' _ p o m a _ p' o' m' b) = if is_valued n then if is_direct m a then is_direct m' b else false else false
-  is_direct n (Assign' u _ p o m a _ p' o' m' b) = if is_direct_place m a then is_direct m' b else false
-  is_direct n (Step' u _ p o m a) = is_direct_place m a
-  is_direct n _ = false
-
-  -- the places among them
-  pub is_direct_place : Note → Expr → Bool
-  is_direct_place n (Name x) = is_variable n
-  is_direct_place n (Index' _ p o m a _ p' o' m' b) = if is_direct m a then is_direct m' b else false
-  is_direct_place n (Unary' u _ p o m a) = if is_deref u then is_direct m a else false
-  is_direct_place n _ = false
-
 -- a value or none, or why the run stops
 abbrev pub fetched_as : Result (Option Value) Stop → State → Got (Option Value)
 fetched_as (Ok v) s = Gives v s
@@ -147,15 +122,38 @@ fetched_as (Err why) s = Stops why s
 abbrev pub scalar_value : ℕ → State → Got Value
 scalar_value v s = turn s (λ s. then_do (present (instance_of v s) s) (λ j s. settled (read_of s.store (whole j 1)) s))
 
--- a node's turn and value were taken, or nothing was done
-abbrev pub IsAtOnce : Option Reply → TablesShape → Knot → NodeShape → State → State → Type 0
-IsAtOnce None t k e s s' = s' ≡ s
-IsAtOnce (Some r) t k e s s' = value t k e s ≡ then_do (replied r s') gives
+-- the answer is what is come to, with the state after it; nothing is said of want of memory. As an expression's value, as a cell's, as a
+-- place
+abbrev pub Meets : Answer → State → Got (Option Value) → Type 0
+Meets (answer.Value v) s r = r ≡ gives v s
+Meets (answer.Stopped why) s r = r ≡ Stops why s
+Meets answer.NoMemory s r = Unit {0}
 
--- a turn was taken before a value
-abbrev pub IsFewer : Reply → ℕ → ℕ → Type 0
-IsFewer (reply.Value v) n m = n < m
-IsFewer (reply.Stopped why) n m = Unit {0}
+abbrev pub Loads : Answer → State → Got Value → Type 0
+Loads (answer.Value v) s r = r ≡ Gives v s
+Loads (answer.Stopped why) s r = r ≡ Stops why s
+Loads answer.NoMemory s r = Unit {0}
+
+abbrev pub Stands : Spot → State → Got Pointer → Type 0
+Stands (spot.At q) s r = r ≡ Gives q s
+Stands (spot.Stopped why) s r = r ≡ Stops why s
+Stands spot.NoMemory s r = Unit {0}
+
+-- a node's turn and value were taken, or nothing was done
+abbrev pub IsAtOnce : Option Answer → TablesShape → Knot → NodeShape → State → State → Type 0
+IsAtOnce None t k e s s' = s' ≡ s
+IsAtOnce (Some a) t k e s s' = Meets a s' (value t k e s)
+
+-- a turn was taken before a value, or a place
+abbrev pub IsFewer : Answer → ℕ → ℕ → Type 0
+IsFewer (answer.Value v) n m = n < m
+IsFewer (answer.Stopped why) n m = Unit {0}
+IsFewer answer.NoMemory n m = Unit {0}
+
+abbrev pub IsNearer : Spot → ℕ → ℕ → Type 0
+IsNearer (spot.At q) n m = n < m
+IsNearer (spot.Stopped why) n m = Unit {0}
+IsNearer spot.NoMemory n m = Unit {0}
 
 -- the same of a place
 abbrev pub IsPlaceAtOnce : Option (Result Pointer Stop) → TablesShape → Knot → NodeShape → State → State → Type 0

@@ -14,11 +14,11 @@ ghost use Rattle.c_meaning.specs.Knot.{Knot};
 ghost use Rattle.c_meaning.specs.Expressions.{gives};
 ghost use Rattle.c_world.specs.World.{state_of};
 ghost use Rattle.c_world.specs.Steps.{found};
-ghost use Rattle.c_eval_once.specs.Parts.{value, replied};
-ghost use Rattle.c_eval_once.specs.Forms.{Kept, is_leaf, scalar_value, IsAtOnce, IsPlaceAtOnce, IsFewer};
+ghost use Rattle.c_eval_once.specs.Parts.{value};
+ghost use Rattle.c_eval_once.specs.Forms.{Kept, is_leaf, scalar_value, IsAtOnce, IsPlaceAtOnce, IsFewer, Meets};
 
 use crate::leaf::{leaf, variable};
-use crate::reply::Reply;
+use crate::reply::Answer;
 use c_meaning::end::Stop;
 use c_store::value::{Fault, Pointer, Value};
 use c_syntax::tree::{CType, Expr, Node, Note};
@@ -29,7 +29,7 @@ use c_world::world::World;
 /// The value of a constant, a literal, a `sizeof` or a variable of scalar type (C89, 3.3.1), whose turn is taken; `None` for
 /// any other node, and nothing is done.
 #[inline(always)]
-pub fn at_once(world: &mut World, node: &Node) -> Option<Reply>
+pub fn at_once(world: &mut World, node: &Node) -> Option<Answer>
     ensures is { (t : TablesShape) (k : Knot) (h : List Event) → IsAtOnce result t k (node_shape node.now) (state_of world.old h) (state_of world.new h) }
     ensures kept { Kept world.old world.new }
     ensures turns { world.new.turns ≤ world.old.turns }
@@ -52,35 +52,35 @@ pub fn at_once(world: &mut World, node: &Node) -> Option<Reply>
 /// The turn and the value of a leaf.
 #[tactic(auto, using(crate::proofs::Once::fewer))]
 #[inline(always)]
-pub fn constant(world: &mut World, node: &Node) -> Reply
+pub fn constant(world: &mut World, node: &Node) -> Answer
     requires { is_leaf node.now.note node.now.form ≡ true }
-    ensures is { (t : TablesShape) (k : Knot) (h : List Event) → value t k (node_shape node.now) (state_of world.old h) ≡ then_do (replied result (state_of world.new h)) gives }
+    ensures is { (t : TablesShape) (k : Knot) (h : List Event) → Meets result (state_of world.new h) (value t k (node_shape node.now) (state_of world.old h)) }
     ensures kept { Kept world.old world.new }
     ensures turns { world.new.turns ≤ world.old.turns }
     ensures fewer { IsFewer result world.new.turns world.old.turns }
 {
     if !world.turn() {
-        return Reply::Stopped(Stop::Turns);
+        return Answer::Stopped(Stop::Turns);
     }
     leaf(node)
 }
 
 /// The turn and the value of a variable of scalar type.
 #[inline(always)]
-pub fn scalar(world: &mut World, number: u32) -> Reply
-    ensures is { (h : List Event) → scalar_value number (state_of world.old h) ≡ replied result (state_of world.new h) }
+pub fn scalar(world: &mut World, number: u32) -> Answer
+    ensures is { (h : List Event) → Meets result (state_of world.new h) (then_do (scalar_value number (state_of world.old h)) gives) }
     ensures kept { Kept world.old world.new }
     ensures turns { world.new.turns ≤ world.old.turns }
     ensures fewer { IsFewer result world.new.turns world.old.turns }
 {
     if !world.turn() {
-        return Reply::Stopped(Stop::Turns);
+        return Answer::Stopped(Stop::Turns);
     }
     match world.instance(number) {
-        None => Reply::Stopped(Stop::Fault(Fault::NoResult)),
+        None => Answer::Stopped(Stop::Fault(Fault::NoResult)),
         Some(instance) => match world.read(whole(instance, 1)) {
-            Ok(value) => Reply::Value(value),
-            Err(fault) => Reply::Stopped(Stop::Fault(fault)),
+            Ok(value) => Answer::Value(value),
+            Err(fault) => Answer::Stopped(Stop::Fault(fault)),
         },
     }
 }
@@ -128,18 +128,18 @@ pub fn array_value(
     of: &CType,
     length: u32,
     number: u32,
-) -> Reply
+) -> Answer
     requires { type_of kind.now ≡ array (type_of of.now) length }
-    ensures is { (k : Knot) (p o : Pos) (x : Text) (h : List Event) → value (tables_shape tables.now) k (node p o (typed (type_of kind.now) (Some number)) (leaf (name x))) (state_of world.old h) ≡ then_do (replied result (state_of world.new h)) gives }
+    ensures is { (k : Knot) (p o : Pos) (x : Text) (h : List Event) → Meets result (state_of world.new h) (value (tables_shape tables.now) k (node p o (typed (type_of kind.now) (Some number)) (leaf (name x))) (state_of world.old h)) }
     ensures kept { Kept world.old world.new }
     ensures turns { world.new.turns ≤ world.old.turns }
     ensures fewer { IsFewer result world.new.turns world.old.turns }
 {
     match place(tables, world, kind, number) {
-        Err(why) => Reply::Stopped(why),
+        Err(why) => Answer::Stopped(why),
         Ok(at) => match world.select(at, 0, length, cells_in(tables, of)) {
-            Ok(first) => Reply::Value(Value::At(first)),
-            Err(why) => Reply::Stopped(why),
+            Ok(first) => Answer::Value(Value::At(first)),
+            Err(why) => Answer::Stopped(why),
         },
     }
 }

@@ -10,15 +10,15 @@ ghost use Rattle.c_meaning.specs.Operators.{converted, operated, stepped_by_one,
 ghost use Rattle.c_meaning.specs.Places.{field_place, variable_place};
 ghost use Rattle.c_meaning.specs.Constants.{type_at};
 ghost use Rattle.c_meaning.specs.Knot.{Knot};
-ghost use Rattle.c_meaning.specs.Expressions.{gives, operand, cast_value, literal_value, noted_value};
+ghost use Rattle.c_meaning.specs.Expressions.{gives, operand, cast_value, literal_value};
 ghost use Rattle.c_world.specs.World.{state_of};
 ghost use Rattle.c_compute.specs.Narrow.{direction};
 ghost use Rattle.c_world.specs.Steps.{found};
 ghost use Rattle.c_eval_once.specs.Parts.{value, replied, combined, element_at, is_front, truth_at, one_more};
-ghost use Rattle.c_eval_once.specs.Forms.{fetched_as, is_leaf, noted_kind};
+ghost use Rattle.c_eval_once.specs.Forms.{fetched_as, is_leaf, noted_kind, Meets};
 
 use crate::number::number;
-use crate::reply::Reply;
+use crate::reply::{Answer, Reply};
 use c_arith::convert;
 use c_base::place::IntKind;
 use c_compute::layout::part_in;
@@ -35,24 +35,27 @@ use c_world::world::World;
 
 /// The value of a constant, a literal or a `sizeof` (C89, 3.1.3, 3.1.4 and 3.3.3.4), whose turn was taken.
 #[inline(always)]
-pub fn leaf(node: &Node) -> Reply
+pub fn leaf(node: &Node) -> Answer
     requires { is_leaf node.now.note node.now.form ≡ true }
-    ensures { (t : TablesShape) (k : Knot) (s : State) → value t k (node_shape node.now) (one_more s) ≡ then_do (replied result s) gives }
+    ensures { (t : TablesShape) (k : Knot) (s : State) → Meets result s (value t k (node_shape node.now) (one_more s)) }
 {
     match &node.form {
         Expr::Number(text) => number(text.bytes()),
-        Expr::Char(byte) => Reply::Value(Value::Int(convert(i128::from(*byte), IntKind::Char))),
+        Expr::Char(byte) => Answer::Value(Value::Int(convert(i128::from(*byte), IntKind::Char))),
         Expr::Str(text) => literal(&node.note, text),
-        _ => noted(&node.note),
+        _ => match &node.note {
+            Note::Known(_, value) => Answer::Value(Value::Int(*value)),
+            Note::Bare | Note::Typed(_, _) => Answer::Stopped(Stop::Fault(Fault::NoResult)),
+        },
     }
 }
 
 // A pointer to the first char of a string literal's instance.
-fn literal(note: &Note, text: &Text) -> Reply
-    ensures { (s : State) → literal_value (note_shape note.now) text.now s ≡ then_do (replied result s) gives }
+fn literal(note: &Note, text: &Text) -> Answer
+    ensures { (s : State) → Meets result s (literal_value (note_shape note.now) text.now s) }
 {
     match note {
-        Note::Typed(_, Some(number)) if text.len() < 1_048_576 => Reply::Value(Value::At(
+        Note::Typed(_, Some(number)) if text.len() < 1_048_576 => Answer::Value(Value::At(
             Pointer {
                 instance: u64::from(*number),
                 base: 0,
@@ -61,17 +64,7 @@ fn literal(note: &Note, text: &Text) -> Reply
                 index: 0,
             },
         )),
-        _ => Reply::Stopped(Stop::Fault(Fault::NoResult)),
-    }
-}
-
-// The value in the note.
-fn noted(note: &Note) -> Reply
-    ensures { (s : State) → noted_value (note_shape note.now) s ≡ then_do (replied result s) gives }
-{
-    match note {
-        Note::Known(_, value) => Reply::Value(Value::Int(*value)),
-        Note::Bare | Note::Typed(_, _) => Reply::Stopped(Stop::Fault(Fault::NoResult)),
+        _ => Answer::Stopped(Stop::Fault(Fault::NoResult)),
     }
 }
 
@@ -126,11 +119,17 @@ pub fn cast(node: &Node, value: Option<Value>) -> Result<Option<Value>, Stop>
 pub fn unary(op: UnaryOp, node: &Node, value: Value) -> Reply
     ensures { (s : State) → then_do (settled (of_one op (operand (node_shape node.now)) value) s) gives ≡ then_do (replied result s) gives }
 {
-    let given = match kind(node) {
+    settle(of_one(op, node, value))
+}
+
+/// What it makes of the operand's value.
+pub fn of_one(op: UnaryOp, node: &Node, value: Value) -> Result<Value, Fault>
+    ensures { result ≡ of_one op (operand (node_shape node.now)) value }
+{
+    match kind(node) {
         None => operators::of_one(op, &CType::Void, value),
         Some(kind) => operators::of_one(op, kind, value),
-    };
-    settle(given)
+    }
 }
 
 #[inline(always)]

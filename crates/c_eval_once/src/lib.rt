@@ -1,10 +1,9 @@
-//! What an expression does without waiting: leaves, operators on values, probes, built-ins, and whole expressions that hold no
-//! call, cast, field, `?:`, comma or probe.
+//! What an expression does without waiting: leaves, operators on values, cells, probes, and built-ins.
 #![tactic(auto)]
 
 pub mod at_once;
 pub mod builtins;
-pub mod direct;
+pub mod cells;
 pub mod leaf;
 mod number;
 pub mod reply;

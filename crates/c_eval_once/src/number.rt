@@ -5,32 +5,31 @@ ghost use Rattle.c_lex_pieces.specs.Bytes.{digit_of};
 ghost use Rattle.c_constants.specs.Numbers.{number_of};
 ghost use Rattle.c_store.specs.declared.value.Value.TheVariants.{Int};
 ghost use Rattle.c_meaning.specs.State.{State};
-ghost use Rattle.c_meaning.specs.Results.{then_do};
 ghost use Rattle.c_meaning.specs.Expressions.{gives, number_value};
-ghost use Rattle.c_eval_once.specs.Parts.{replied};
+ghost use Rattle.c_eval_once.specs.Forms.{Meets};
 
-use crate::reply::Reply;
+use crate::reply::Answer;
 use c_constants::numbers::number_of;
 use c_meaning::end::Stop;
 use c_store::value::{Fault, Value};
 
 /// The value of the integer constant of that spelling (C89, 3.1.3.2); NoResult where it is none.
 #[inline(always)]
-pub fn number(text: &[u8]) -> Reply
-    ensures { (s : State) → number_value (number_of text.now) s ≡ then_do (replied result s) gives }
+pub fn number(text: &[u8]) -> Answer
+    ensures { (s : State) → Meets result s (number_value (number_of text.now) s) }
 {
     match small(text) {
-        Some(value) => Reply::Value(Value::Int(i128::from(value))),
+        Some(value) => Answer::Value(Value::Int(i128::from(value))),
         None => any_number(text),
     }
 }
 
-fn any_number(text: &[u8]) -> Reply
-    ensures { (s : State) → number_value (number_of text.now) s ≡ then_do (replied result s) gives }
+fn any_number(text: &[u8]) -> Answer
+    ensures { (s : State) → Meets result s (number_value (number_of text.now) s) }
 {
     match number_of(text) {
-        Some(number) => Reply::Value(Value::Int(i128::from(number.value))),
-        None => Reply::Stopped(Stop::Fault(Fault::NoResult)),
+        Some(number) => Answer::Value(Value::Int(i128::from(number.value))),
+        None => Answer::Stopped(Stop::Fault(Fault::NoResult)),
     }
 }
 

@@ -16,8 +16,8 @@ ghost use Rattle.c_world.specs.World.{state_of};
 ghost use Rattle.c_eval_once.specs.Parts.{replied, probed, stepped_there, is_front, combined_into};
 ghost use Rattle.c_eval_once.specs.Forms.{Kept, told, fetched_as, Tells};
 
-use crate::leaf::{converted_to, is_front, operate, step_by_one};
-use crate::reply::Reply;
+use crate::cells;
+use crate::reply::{Reply, reply_of};
 use c_base::place::NoMemory;
 use c_compute::constants::select_number;
 use c_compute::operators::is_true;
@@ -38,45 +38,19 @@ pub fn load(world: &mut World, node: &Node, at: Pointer) -> Result<Reply, NoMemo
     ensures kept { OnOk result (Kept world.old world.new) }
     ensures turns { OnOk result (world.new.turns ≡ world.old.turns) }
 {
-    match world.read(at) {
-        Err(fault) => Ok(Reply::Stopped(Stop::Fault(fault))),
-        Ok(value) => {
-            if tell_uses(world, node, at)? {
-                Ok(Reply::Value(value))
-            } else {
-                Ok(Reply::Stopped(Stop::Fault(Fault::NoResult)))
-            }
-        }
-    }
+    let reply = reply_of(cells::load(world, node, at))?;
+    Ok(reply)
 }
 
-/// Writes the value into the cell at the place that the node is, and tells the definitions of its probes.
-#[inline(always)]
-fn store(world: &mut World, node: &Node, at: Pointer, value: Value) -> Result<Reply, NoMemory>
-    ensures done { IfOk result (λ r. (h : List Event) → stored tells (marks def (node_shape node.now)) (quiet 0) at value (state_of world.old h) ≡ replied r (state_of world.new h)) }
-    ensures kept { OnOk result (Kept world.old world.new) }
-    ensures turns { OnOk result (world.new.turns ≡ world.old.turns) }
-{
-    match world.write(at, value) {
-        Err(fault) => Ok(Reply::Stopped(Stop::Fault(fault))),
-        Ok(()) => {
-            if tell_definitions(world, node, at)? {
-                Ok(Reply::Value(value))
-            } else {
-                Ok(Reply::Stopped(Stop::Fault(Fault::NoResult)))
-            }
-        }
-    }
-}
-
-/// The same of the value in the place's type, which is what the assignment gives (C89, 3.3.16).
+/// The value is written into the cell at the place that the node is, in the place's type, and is then the assignment's (C89,
+/// 3.3.16); its probes tell the definitions.
 #[inline(always)]
 pub fn write(world: &mut World, node: &Node, at: Pointer, value: Value) -> Result<Reply, NoMemory>
     ensures done { IfOk result (λ r. (h : List Event) → written (type_at (node_shape node.now)) (marks def (node_shape node.now)) (quiet 0) at value (state_of world.old h) ≡ then_do (replied r (state_of world.new h)) gives) }
     ensures kept { OnOk result (Kept world.old world.new) }
     ensures turns { OnOk result (world.new.turns ≡ world.old.turns) }
 {
-    let reply = store(world, node, at, converted_to(node, value))?;
+    let reply = reply_of(cells::write(world, node, at, value))?;
     Ok(reply)
 }
 
@@ -94,13 +68,8 @@ pub fn write_combined(
     ensures kept { OnOk result (Kept world.old world.new) }
     ensures turns { OnOk result (world.new.turns ≡ world.old.turns) }
 {
-    match operate(op, a, b, left, right) {
-        Err(fault) => Ok(Reply::Stopped(Stop::Fault(fault))),
-        Ok(value) => {
-            let reply = write(world, a, at, value)?;
-            Ok(reply)
-        }
-    }
+    let reply = reply_of(cells::write_combined(world, op, a, b, at, left, right))?;
+    Ok(reply)
 }
 
 /// A step over the place that the node is: its value before the step, or the one behind it (C89, 3.3.2.4 and 3.3.3.1).
@@ -109,16 +78,8 @@ pub fn stepped(world: &mut World, op: StepOp, node: &Node, at: Pointer) -> Resul
     ensures kept { OnOk result (Kept world.old world.new) }
     ensures turns { OnOk result (world.new.turns ≡ world.old.turns) }
 {
-    match load(world, node, at)? {
-        Reply::Stopped(why) => Ok(Reply::Stopped(why)),
-        Reply::Value(before) => match step_by_one(op, node, before) {
-            Err(fault) => Ok(Reply::Stopped(Stop::Fault(fault))),
-            Ok(value) => match write(world, node, at, value)? {
-                Reply::Value(after) => Ok(Reply::Value(if is_front(op) { after } else { before })),
-                Reply::Stopped(why) => Ok(Reply::Stopped(why)),
-            },
-        },
-    }
+    let reply = reply_of(cells::stepped(world, op, node, at))?;
+    Ok(reply)
 }
 
 /// What a place gives as a value: a scalar's is read, an array's is a pointer to its first element, another one gives none
@@ -155,8 +116,8 @@ pub fn fetch(
 /// Tells that the block of the probe with that number is entered; false at a probe without a number.
 pub fn tell_block(world: &mut World, text: &Text) -> Result<bool, NoMemory>
     ensures told { IfOk result (λ r. (h : List Event) → Tells r log_block text.now (state_of world.old h) (state_of world.new h)) }
-    ensures kept { OnOk result (Kept world.old world.new) }
-    ensures turns { OnOk result (world.new.turns ≡ world.old.turns) }
+    ensures kept { Kept world.old world.new }
+    ensures turns { world.new.turns ≡ world.old.turns }
 {
     match probe_number(text.bytes()) {
         None => Ok(false),
@@ -170,8 +131,8 @@ pub fn tell_block(world: &mut World, text: &Text) -> Result<bool, NoMemory>
 /// Tells with which outcome the test or choice in the probe ends by this value; false at a probe without a number.
 pub fn tell_test(world: &mut World, node: &Node, value: Value) -> Result<bool, NoMemory>
     ensures told { IfOk result (λ r. (h : List Event) → probed (expr_shape node.now.form) value (state_of world.old h) ≡ told r (state_of world.new h) (gives value)) }
-    ensures kept { OnOk result (Kept world.old world.new) }
-    ensures turns { OnOk result (world.new.turns ≡ world.old.turns) }
+    ensures kept { Kept world.old world.new }
+    ensures turns { world.new.turns ≡ world.old.turns }
 {
     match &node.form {
         Expr::Probe(probe, inner) => match probe {
@@ -193,8 +154,8 @@ pub fn tell_test(world: &mut World, node: &Node, value: Value) -> Result<bool, N
 
 fn tell_outcome(world: &mut World, text: &Text, outcome: u32) -> Result<bool, NoMemory>
     ensures told { IfOk result (λ r. (h : List Event) → Tells r (log_test outcome) text.now (state_of world.old h) (state_of world.new h)) }
-    ensures kept { OnOk result (Kept world.old world.new) }
-    ensures turns { OnOk result (world.new.turns ≡ world.old.turns) }
+    ensures kept { Kept world.old world.new }
+    ensures turns { world.new.turns ≡ world.old.turns }
 {
     match probe_number(text.bytes()) {
         None => Ok(false),
@@ -206,11 +167,11 @@ fn tell_outcome(world: &mut World, text: &Text, outcome: u32) -> Result<bool, No
     }
 }
 
-// Tells the uses of the probes round the place, the inner ones first.
-fn tell_uses(world: &mut World, node: &Node, at: Pointer) -> Result<bool, NoMemory>
+/// Tells the uses of the probes round the place, the inner ones first; false at a probe without a number.
+pub fn tell_uses(world: &mut World, node: &Node, at: Pointer) -> Result<bool, NoMemory>
     ensures told { IfOk result (λ r. (h : List Event) (go : State → Got Value) → logs (log_use at) (marks used (node_shape node.now)) (state_of world.old h) go ≡ told r (state_of world.new h) go) }
-    ensures kept { OnOk result (Kept world.old world.new) }
-    ensures turns { OnOk result (world.new.turns ≡ world.old.turns) }
+    ensures kept { Kept world.old world.new }
+    ensures turns { world.new.turns ≡ world.old.turns }
 {
     match &node.form {
         Expr::Paren(inner) => {
@@ -238,8 +199,8 @@ fn tell_uses(world: &mut World, node: &Node, at: Pointer) -> Result<bool, NoMemo
 
 fn tell_use(world: &mut World, text: &Text, at: Pointer) -> Result<bool, NoMemory>
     ensures told { IfOk result (λ r. (h : List Event) → Tells r (log_use at) text.now (state_of world.old h) (state_of world.new h)) }
-    ensures kept { OnOk result (Kept world.old world.new) }
-    ensures turns { OnOk result (world.new.turns ≡ world.old.turns) }
+    ensures kept { Kept world.old world.new }
+    ensures turns { world.new.turns ≡ world.old.turns }
 {
     match probe_number(text.bytes()) {
         None => Ok(false),
@@ -251,11 +212,11 @@ fn tell_use(world: &mut World, text: &Text, at: Pointer) -> Result<bool, NoMemor
     }
 }
 
-// The same of definitions.
-fn tell_definitions(world: &mut World, node: &Node, at: Pointer) -> Result<bool, NoMemory>
+/// The same of definitions.
+pub fn tell_definitions(world: &mut World, node: &Node, at: Pointer) -> Result<bool, NoMemory>
     ensures told { IfOk result (λ r. (h : List Event) (go : State → Got Value) → logs (log_def at) (marks def (node_shape node.now)) (state_of world.old h) go ≡ told r (state_of world.new h) go) }
-    ensures kept { OnOk result (Kept world.old world.new) }
-    ensures turns { OnOk result (world.new.turns ≡ world.old.turns) }
+    ensures kept { Kept world.old world.new }
+    ensures turns { world.new.turns ≡ world.old.turns }
 {
     match &node.form {
         Expr::Paren(inner) => {
@@ -283,8 +244,8 @@ fn tell_definitions(world: &mut World, node: &Node, at: Pointer) -> Result<bool,
 
 fn tell_definition(world: &mut World, text: &Text, at: Pointer) -> Result<bool, NoMemory>
     ensures told { IfOk result (λ r. (h : List Event) → Tells r (log_def at) text.now (state_of world.old h) (state_of world.new h)) }
-    ensures kept { OnOk result (Kept world.old world.new) }
-    ensures turns { OnOk result (world.new.turns ≡ world.old.turns) }
+    ensures kept { Kept world.old world.new }
+    ensures turns { world.new.turns ≡ world.old.turns }
 {
     match probe_number(text.bytes()) {
         None => Ok(false),

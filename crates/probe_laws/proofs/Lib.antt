@@ -1,14 +1,14 @@
 mod Counted
 pub mod FewItems
-mod Settled
-mod Known
-mod Rules
-mod KnownParts
-mod KnownNodes
-mod FitNodes
-mod FitDecls
-mod FitStatements
-mod BareMarks
+pub mod Settled
+pub mod Known
+pub mod Rules
+pub mod KnownParts
+pub mod KnownNodes
+pub mod FitNodes
+pub mod FitDecls
+pub mod FitStatements
+pub mod BareMarks
 pub mod FitUnits
 pub mod Laws
 pub mod Owners

@@ -72,7 +72,7 @@ pub few_uses : (b : Bool) (c : Around) (p : Pos) (d : Option Direct) (w : Walked
 few_uses true c p d w is few = omega (arith, uses_then w.items (used p c.function d c.owner), few.uses)
 few_uses false c p d w is few = absurd (true≢false (sym is))
 
-few_use : (b : Bool) (c : Around) (p : Pos) (d : Option Direct) (w : Walked) → HasFewItems (with_use b c p d w) → HasFewItems w
+pub few_use : (b : Bool) (c : Around) (p : Pos) (d : Option Direct) (w : Walked) → HasFewItems (with_use b c p d w) → HasFewItems w
 few_use true c p d w few = few_item (used p c.function d c.owner) w few
 few_use false c p d w few = few
 

@@ -19,14 +19,14 @@ use Rattle.c_constants.specs.Probes.{is_plain, probe_number_of}
 digit_worth : (b : ℕ) → IsInRange 48 57 b → digit_of b ≡ b - 48
 digit_worth b r = grind arith
 
-digit_same : (b : ℕ) → digit_value b < 10 → digit_of b ≡ digit_value b
+pub digit_same : (b : ℕ) → digit_value b < 10 → digit_of b ≡ digit_value b
 digit_same b lt = grind arith
 
-value_same : (n : ℕ) (ds : List ℕ) → AllDigits 10 ds → value_from 10 n ds ≡ digits_value_after 10 n ds
+pub value_same : (n : ℕ) (ds : List ℕ) → AllDigits 10 ds → value_from 10 n ds ≡ digits_value_after 10 n ds
 value_same n [] d = refl
 value_same n (c ∷ cs) d = ap (λ m. value_from 10 (n * 10 + m) cs) (digit_same c d.0) ∙ value_same (n * 10 + digit_value c) cs d.1
 
-run_all : (ds : List ℕ) → AllDigits 10 ds → run (Digit 10) ds ≡ length ds
+pub run_all : (ds : List ℕ) → AllDigits 10 ds → run (Digit 10) ds ≡ length ds
 run_all [] d = refl
 run_all (c ∷ cs) d = grind (arith, digit_same c d.0, run_all cs d.1)
 

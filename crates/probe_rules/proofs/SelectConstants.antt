@@ -30,7 +30,7 @@ use Rattle.probe_rules.proofs.ReadNumbers.{number_again, zero_again}
 
 -- ---- case constants: without probes the constants are those that the walk counts with
 
-walk_constant : (r : Taken) (a : NodeShape) → IsReady r a → constant a ≡ tests.constant a
+pub walk_constant : (r : Taken) (a : NodeShape) → IsReady r a → constant a ≡ tests.constant a
 walk_constant r (node p o n (leaf (number x))) clean = refl
 walk_constant r (node p o n (leaf (char x))) clean = refl
 walk_constant r (node p o n (leaf (str x))) clean = refl
@@ -134,7 +134,7 @@ minus_read k n false false f e h =
     same true = refl
     same false = refl
 
-highest : (k : IntKind) (n : ℕ) → InRange k (pos n) → n < 2 ^ 64
+pub highest : (k : IntKind) (n : ℕ) → InRange k (pos n) → n < 2 ^ 64
 highest Char n f = omega (arith, ints, f.at_most)
 highest Short n f = omega (arith, ints, f.at_most)
 highest Int n f = omega (arith, ints, f.at_most)
@@ -144,7 +144,7 @@ highest UShort n f = omega (arith, ints, f.at_most)
 highest UInt n f = omega (arith, ints, f.at_most)
 highest ULong n f = omega (arith, ints, f.at_most)
 
-lowest : (k : IntKind) (n : ℕ) → InRange k (negsuc n) → suc n < 2 ^ 64
+pub lowest : (k : IntKind) (n : ℕ) → InRange k (negsuc n) → suc n < 2 ^ 64
 lowest Char n f = omega (arith, ints, f.at_least)
 lowest Short n f = omega (arith, ints, f.at_least)
 lowest Int n f = omega (arith, ints, f.at_least)
@@ -163,7 +163,7 @@ zero_in_range k =
 
 -- ---- constants as they are written
 
-constant_read : (p o : Pos) (k : IntKind) (z : ℤ) → InRange k z → case_value (Some k) (constant (constant_at p o z)) ≡ z
+pub constant_read : (p o : Pos) (k : IntKind) (z : ℤ) → InRange k z → case_value (Some k) (constant (constant_at p o z)) ≡ z
 constant_read p o k (pos zero) f = ap (λ x. case_value (Some k) (number_constant x)) zero_again ∙ wrap_held k (pos 0) f
 constant_read p o k (pos (suc n)) f = ap (λ x. case_value (Some k) (number_constant x)) (number_again (suc n) (omega arith) (highest k (suc n) f)) ∙ wrap_held k (pos (suc n)) f
 constant_read p o k (negsuc n) f =
@@ -171,11 +171,11 @@ constant_read p o k (negsuc n) f =
     ∙ minus_read k n (in_range Int (pos (suc n))) (in_range Long (pos (suc n))) f refl refl
 
 -- a case constant of that type
-abbrev IsCase : Option IntKind → ℤ → Type 0
+abbrev pub IsCase : Option IntKind → ℤ → Type 0
 IsCase (Some k) z = InRange k z
 IsCase None z = z ≡ pos 0
 
-abbrev AreCases : Option IntKind → List ℤ → Type 0
+abbrev pub AreCases : Option IntKind → List ℤ → Type 0
 AreCases k [] = Unit {0}
 AreCases k (z ∷ zs) = IsCase k z × AreCases k zs
 
@@ -198,7 +198,7 @@ labels_are_cases k [] zs are = are
 labels_are_cases k (case p a ∷ labels) zs are = (value_is_case k (tests.constant a), labels_are_cases k labels zs are)
 labels_are_cases k (default p ∷ labels) zs are = labels_are_cases k labels zs are
 
-items_are_cases : (k : Option IntKind) (items : ItemShapes) → AreCases k (case_values k items)
+pub items_are_cases : (k : Option IntKind) (items : ItemShapes) → AreCases k (case_values k items)
 items_are_cases k no_items = tt
 items_are_cases k (more_items labels a rest) = labels_are_cases k labels (case_values k rest) (items_are_cases k rest)
 

@@ -1,5 +1,5 @@
 -- Sums of sound tallies are sound, and the tally of a set has each of its facts once.
-use Rattle.std.proofs.Common.{◌≡◌, ◌≢◌, ℕ, ◌+◌, ◌<◌, ◌≤◌, Bool, true, cond, ltb, min, List, [], ◌∷◌, refl, ap, subst, inl, inr, arith}
+use Rattle.std.proofs.Common.{◌≡◌, ◌≢◌, ℕ, ◌+◌, ◌<◌, ◌≤◌, Bool, true, cond, ltb, min, List, [], ◌∷◌, Option, Some, None, refl, ap, subst, inl, inr, arith}
 use Rattle.std.specs.List.{AllByRecursion}
 use Rattle.std.proofs.lemmas.Bool.{cases_eq, cases_lt, eq-eqb, ne_eqb, ltb-true, lt-ltb}
 use Rattle.atac_facts.specs.declared.fact.Fact.{Fact}
@@ -7,9 +7,13 @@ use Rattle.atac_facts.specs.declared.fact.Fact.TheVariants.{Block, Outcome, Pair
 use Rattle.atac_facts.specs.declared.tally.Counted.{Counted}
 use Rattle.atac_facts.specs.Facts.{rank, key_of, place_of, fits}
 use Rattle.atac_facts.specs.Tallies.{AscendsFrom, count_of, is_met}
-use Rattle.atac_facts.specs.Sums.{most}
+use Rattle.atac_facts.specs.Sums.{most, AreSmall}
 use Rattle.atac_facts.proofs.Bits.{one_fact, in_range, fits_is, small_place, and_both, both_and}
 use Rattle.atac_facts.proofs.Counting.{rank_is}
+use Rattle.std.specs.Prelude.{Vec}
+use Rattle.std.specs.Global.{Global}
+use Rattle.trace_file.specs.Lists.{file_rows}
+use Rattle.trace_file.specs.Rows.{kept_rows, AreOrderly}
 use Rattle.trace_file.specs.Sound.{SoundFact, Orderly}
 use Rattle.trace_file.specs.Sums.{AreSound, RowFits}
 
@@ -25,7 +29,7 @@ one_rank a b fa fb same =
     let place : place_of a ≡ place_of b = omega arith in
     one_fact a b (in_range a fa) (in_range b fb) key place
 
-sound_fits : (f : Fact) → SoundFact f → fits f ≡ true
+pub sound_fits : (f : Fact) → SoundFact f → fits f ≡ true
 sound_fits (Block k) s = let a = s.1 in fits_is (Block k) (omega arith)
 sound_fits (Outcome k o) s = let a = s.0.1 in let b = s.1.1 in fits_is (Outcome k o) (omega arith, omega arith)
 sound_fits (Pair d u) s = let a = s.0.1 in let b = s.1.1 in fits_is (Pair d u) (omega arith, omega arith)
@@ -39,7 +43,7 @@ count_here row rows f same = ap (λ (b : Bool). cond b row.count (count_of rows 
 pub count_there : (row : Counted) (rows : List Counted) (f : Fact) → rank row.fact ≢ rank f → count_of (row ∷ rows) f ≡ count_of rows f
 count_there row rows f differs = ap (λ (b : Bool). cond b row.count (count_of rows f)) (ne_eqb (rank row.fact) (rank f) differs)
 
-met_is : (rows : List Counted) (f : Fact) → fits f ≡ true → 0 < count_of rows f → is_met rows f ≡ true
+pub met_is : (rows : List Counted) (f : Fact) → fits f ≡ true → 0 < count_of rows f → is_met rows f ≡ true
 met_is rows f fit some = both_and (fits f) (ltb 0 (count_of rows f)) fit (lt-ltb _ _ some)
 
 met_some : (rows : List Counted) (f : Fact) → is_met rows f ≡ true → (fits f ≡ true) × (0 < count_of rows f)
@@ -83,3 +87,16 @@ sum_sound new old from is sound_old sound_from f met =
       | inl there ↦ sound_old f (met_is old f p.0 there)
       | inr none ↦ sound_from f (met_is from f p.0 (omega arith))
     ]
+
+-- NUMBERS FIT
+
+orderly_small : (low : ℕ) (rows : List Counted) → Orderly low rows → AreSmall rows
+orderly_small low [] ordered f = omega arith
+orderly_small low (row ∷ rows) ordered f = elim (cases_eq (rank row.fact) (rank f)) [
+  | inl same ↦ let few = ordered.1.1.1 in omega (arith, few, count_here row rows f same)
+  | inr differs ↦ let others = orderly_small (rank row.fact + 1) rows ordered.2 f in omega (arith, others, count_there row rows f differs)
+]
+
+pub kept_small : (made : List Counted) (read : Option (Vec ℕ Global)) → AreSmall made → AreOrderly read → AreSmall (kept_rows made read)
+kept_small made None small ordered = small
+kept_small made (Some bytes) small ordered = orderly_small 0 (file_rows bytes.items) ordered

@@ -1,5 +1,5 @@
 -- Reading records one after the other, as a loop does.
-use Rattle.std.proofs.Common.{◌≡◌, ℕ, suc, ◌+◌, ◌-◌, ◌*◌, ◌<◌, ◌≤◌, Bool, true, false, leb, List, [], ◌∷◌, ◌++◌, length, drop, refl, sym, ap, subst, ◌∙◌, append_assoc, arith}
+use Rattle.std.proofs.Common.{◌≡◌, ℕ, suc, ◌+◌, ◌-◌, ◌*◌, ◌^◌, ◌<◌, ◌≤◌, Bool, true, false, leb, List, [], ◌∷◌, ◌++◌, length, drop, refl, sym, ap, subst, ◌∙◌, append_assoc, arith}
 use Rattle.std.specs.Prelude.{IsTrue, ◌↔◌}
 use Rattle.std.proofs.lemmas.List.{append-nil, length-drop}
 use Rattle.std.proofs.lemmas.Bool.{leb-true, le-leb}
@@ -12,7 +12,7 @@ use Rattle.trace_file.specs.declared.refusal.DecodeRefusal.TheVariants.{NotATrac
 use Rattle.trace_file.specs.declared.trace.Trace.{Trace}
 use Rattle.trace_file.specs.Layout.{size}
 use Rattle.trace_file.specs.Sound.{SoundRow, Orderly}
-use Rattle.trace_file.specs.Reading.{row_at, rows_at, StopsAt, StopsTrace}
+use Rattle.trace_file.specs.Reading.{row_at, rows_at, EndsAt, StopsAt, StopsTrace}
 use Rattle.trace_file.proofs.Ordered.{orderly_at, orderly_push}
 
 -- what is left to read begins with a row
@@ -106,3 +106,79 @@ stops_trace NotATrace t stop = absurd stop
 stops_trace Version t stop = absurd stop
 stops_trace Length t stop = absurd stop
 stops_trace Damaged t stop = absurd stop
+
+-- ---- the same without keeping the rows
+
+-- what is known of all records after some: all are orderly just where those that are left are, from this rank on
+pub record Checks (low now : ℕ) (total left : List Counted) : Type 0 where
+  pub whole : Orderly now left → Orderly low total
+  pub back : Orderly low total → Orderly now left
+  pub end : end_from now left ≡ end_from low total
+  pub small : now ≤ 2 ^ 66
+
+pub checks_on : (counted : Bool) (kind : Kind) (n i : ℕ) (bytes : List ℕ) (low now : ℕ) (total : List Counted) (row : Counted) (sound : Bool) (r : ℕ) → i < n
+    → Checks low now total (rows_at counted kind (n - i) bytes) → row ≡ row_at counted kind bytes → sound ≡ true → (IsTrue sound ↔ SoundRow row) → r ≡ rank row.fact → now ≤ r → r < 2 ^ 66
+    → (rest : List ℕ) (s : ℕ) → s ≡ size counted kind → rest ≡ drop s bytes → Checks low (r + 1) total (rows_at counted kind (n - (i + 1)) rest)
+checks_on counted kind n i bytes low now total row sound r lt h row-is sound-is sound-test r-is after few rest s s-is rest-is =
+    let rest-at : rest ≡ drop (size counted kind) bytes = rest-is ∙ ap (λ (k : ℕ). drop k bytes) s-is in
+    let first = row_at counted kind bytes in
+    let others = rows_at counted kind (n - (i + 1)) (drop (size counted kind) bytes) in
+    let rank-is : r ≡ rank first.fact = r-is ∙ ap (λ (x : Counted). rank x.fact) row-is in
+    let good : SoundRow first = subst SoundRow row-is (confirmed (SoundRow row) sound sound-is sound-test) in
+    let k : Checks low now total (first ∷ others) = subst (Checks low now total) (next_row counted kind n i bytes lt) h in
+    let early : now ≤ rank first.fact = subst (λ (x : ℕ). now ≤ x) rank-is after in
+    let next : Checks low (rank first.fact + 1) total others = record {
+      whole = λ ordered. k.whole (early, good, ordered);
+      back = λ ordered. (k.back ordered).2;
+      end = k.end;
+      small = let f : rank first.fact < 2 ^ 66 = subst (λ (x : ℕ). x < 2 ^ 66) rank-is few in omega (arith, f);
+    } in
+    rw (rest-at, rank-is) next
+
+pub checks_unsound : (counted : Bool) (kind : Kind) (n i : ℕ) (bytes : List ℕ) (low now : ℕ) (total : List Counted) (row : Counted) (sound : Bool) → i < n
+    → Checks low now total (rows_at counted kind (n - i) bytes) → row ≡ row_at counted kind bytes → sound ≡ false → (IsTrue sound ↔ SoundRow row) → Orderly low total → ⊥
+checks_unsound counted kind n i bytes low now total row sound lt h row-is sound-is sound-test ordered =
+    let k = subst (Orderly now) (next_row counted kind n i bytes lt) (h.back ordered) in
+    refuted (SoundRow row) sound sound-is sound-test (subst SoundRow (sym row-is) k.1)
+
+pub checks_early : (counted : Bool) (kind : Kind) (n i : ℕ) (bytes : List ℕ) (low now : ℕ) (total : List Counted) (row : Counted) (r : ℕ) → i < n
+    → Checks low now total (rows_at counted kind (n - i) bytes) → row ≡ row_at counted kind bytes → r ≡ rank row.fact → r < now → Orderly low total → ⊥
+checks_early counted kind n i bytes low now total row r lt h row-is r-is before ordered =
+    let k = subst (Orderly now) (next_row counted kind n i bytes lt) (h.back ordered) in
+    let rank-is : r ≡ rank (row_at counted kind bytes).fact = r-is ∙ ap (λ (x : Counted). rank x.fact) row-is in
+    let early : now ≤ r = subst (λ (x : ℕ). now ≤ x) (sym rank-is) k.0 in
+    absurd (omega (arith, early, before))
+
+pub checks_end : (counted : Bool) (kind : Kind) (n i : ℕ) (bytes : List ℕ) (low now : ℕ) (total : List Counted) → n ≤ i
+    → Checks low now total (rows_at counted kind (n - i) bytes) → EndsAt low total now
+checks_end counted kind n i bytes low now total le h =
+    let k : n - i ≡ 0 = omega arith in
+    let none : Checks low now total [] = subst (λ (m : ℕ). Checks low now total (rows_at counted kind m bytes)) k h in
+    record { orderly = none.whole tt; end_is = none.end; small = none.small }
+
+-- ---- lists of rows, one behind the other
+
+pub orderly_first : (low : ℕ) (a b : List Counted) → Orderly low (a ++ b) → Orderly low a
+orderly_first low [] b ordered = tt
+orderly_first low (row ∷ a) b ordered = (ordered.0, ordered.1, orderly_first (rank row.fact + 1) a b ordered.2)
+
+pub orderly_second : (low : ℕ) (a b : List Counted) → Orderly low (a ++ b) → Orderly (end_from low a) b
+orderly_second low [] b ordered = ordered
+orderly_second low (row ∷ a) b ordered = orderly_second (rank row.fact + 1) a b ordered.2
+
+pub orderly_both : (low : ℕ) (a b : List Counted) → Orderly low a → Orderly (end_from low a) b → Orderly low (a ++ b)
+orderly_both low [] b first second = second
+orderly_both low (row ∷ a) b first second = (first.0, first.1, orderly_both (rank row.fact + 1) a b first.2 second)
+
+-- the first list ends at a rank, from which the others go on
+pub goes_behind : (low end : ℕ) (a b : List Counted) → EndsAt low a end → Orderly low (a ++ b) ↔ Orderly end b
+goes_behind low end a b h = (
+  (λ ordered. subst (λ (n : ℕ). Orderly n b) (sym h.end_is) (orderly_second low a b ordered)),
+  (λ ordered. orderly_both low a b h.orderly (subst (λ (n : ℕ). Orderly n b) h.end_is ordered)),
+)
+
+pub no_first : (low : ℕ) (a b : List Counted) → (Orderly low a → ⊥) → Orderly low (a ++ b) → ⊥
+no_first low a b bad ordered = bad (orderly_first low a b ordered)
+
+pub neither : (P : Type 0) → (P → ⊥) → IsTrue false ↔ P
+neither P bad = ((λ e. absurd cc), (λ p. absurd (bad p)))

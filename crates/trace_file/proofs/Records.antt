@@ -1,5 +1,5 @@
 -- A record that is read is the record that was written, and what was written is read again.
-use Rattle.std.proofs.Common.{◌≡◌, ℕ, ◌+◌, ◌^◌, ◌<◌, ◌≤◌, Bool, true, false, List, [], ◌∷◌, ◌++◌, length, get_or, take, drop, refl, sym, ap, ◌∙◌, append_assoc, arith, inl, inr}
+use Rattle.std.proofs.Common.{◌≡◌, ℕ, ◌+◌, ◌^◌, ◌<◌, ◌≤◌, Bool, true, false, List, [], ◌∷◌, ◌++◌, length, take, drop, refl, sym, ap, ◌∙◌, append_assoc, arith, inl, inr}
 use Rattle.std.proofs.Math.Seq.{take-add}
 use Rattle.std.proofs.lemmas.Bool.{cases_lt}
 use Rattle.std.proofs.lemmas.List.{append-nil, length-append, length-take, length-drop, get_or-drop, get_or-take, get_or_past}
@@ -13,10 +13,8 @@ use Rattle.trace_file.specs.declared.kind.Kind.{Kind}
 use Rattle.trace_file.specs.declared.kind.Kind.TheVariants.{Blocks, Outcomes, Pairs, PUses}
 use Rattle.trace_file.specs.Layout.{kind_of, numbers, count_bytes, record_of, size, size_of_numbers}
 use Rattle.trace_file.specs.Sound.{SoundFact, SoundRow}
+pub use Rattle.trace_file.specs.Lists.{IsBytes}
 use Rattle.trace_file.specs.Reading.{fact_at, count_at, row_at}
-
-abbrev pub IsBytes : List ℕ → Type 0
-IsBytes bytes = (i : ℕ) → get_or bytes i 0 < 256
 
 pub IsBytes-drop : (n : ℕ) (bytes : List ℕ) → IsBytes bytes → IsBytes (drop n bytes)
 IsBytes-drop n bytes h i = rw get_or-drop (h (n + i))

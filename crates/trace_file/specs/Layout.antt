@@ -1,5 +1,5 @@
 -- The trace file as a function of the trace. All numbers are big-endian.
-use Rattle.std.specs.Prelude.{◌≡◌, ℕ, ◌+◌, ◌<◌, ◌^◌, Bool, true, false, List, [], ◌∷◌, ◌++◌, length}
+use Rattle.std.specs.Prelude.{◌≡◌, ℕ, ◌<◌, ◌^◌, Bool, true, false, List, [], ◌∷◌, ◌++◌, length}
 use Rattle.std.specs.List.{filter, flat_map, AllByRecursion}
 use Rattle.byteorder.specs.Endian.{big_bytes}
 use Rattle.sha2.specs.Sha256.{sha256}
@@ -9,6 +9,7 @@ use Rattle.atac_facts.specs.declared.tally.Counted.{Counted}
 use Rattle.trace_file.specs.declared.kind.Kind.{Kind}
 use Rattle.trace_file.specs.declared.kind.Kind.TheVariants.{Blocks, Outcomes, Pairs, PUses}
 use Rattle.trace_file.specs.declared.trace.Trace.{Trace}
+pub use Rattle.trace_file.specs.Lists.{size_of_numbers, size}
 
 -- The list that a fact stands in.
 abbrev pub kind_of : Fact → Kind
@@ -37,17 +38,6 @@ count_bytes false n = []
 
 abbrev pub record_of : Bool → Counted → List ℕ
 record_of counted row = numbers row.fact ++ count_bytes counted row.count
-
--- How many bytes a record takes.
-abbrev pub size_of_numbers : Kind → ℕ
-size_of_numbers Blocks = 2
-size_of_numbers Outcomes = 6
-size_of_numbers Pairs = 4
-size_of_numbers PUses = 8
-
-abbrev pub size : Bool → Kind → ℕ
-size true kind = size_of_numbers kind + 4
-size false kind = size_of_numbers kind
 
 -- A list is the number of its records, and the records.
 abbrev pub rows_in : Kind → List Counted → List Counted

@@ -1,5 +1,5 @@
 -- What is asked of the facts of a tally and of a set, and what the types of a row say of its numbers.
-use Rattle.std.specs.Prelude.{◌≡◌, ◌<◌, ◌^◌, true, IsTrue, List}
+use Rattle.std.specs.Prelude.{◌≡◌, ◌||◌, ◌<◌, ◌^◌, true, IsTrue, List}
 use Rattle.std.specs.List.{All}
 use Rattle.atac_facts.specs.declared.fact.Fact.{Fact}
 use Rattle.atac_facts.specs.declared.tally.Counted.{Counted}
@@ -24,3 +24,7 @@ pub record RowFits (row : Counted) : Type 0 where
 pub record AreRows (rows : List Counted) : Type 0 where
   pub ascend : AscendsFrom 0 rows
   pub fit : All RowFits rows
+
+-- The set has the facts of the rows too.
+abbrev pub Gains : FactSet → FactSet → List Counted → Type 0
+Gains old new rows = (fact : Fact) → holds new fact ≡ (holds old fact || is_met rows fact)

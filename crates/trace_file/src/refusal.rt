@@ -42,6 +42,14 @@ impl From<NoMemory> for DecodeRefusal {
     }
 }
 
+impl From<NoMemory> for EncodeRefusal {
+    ghost from_gives = { λ _ e. e ≡ encoding.NoMemory };
+
+    fn from(_e: NoMemory) -> EncodeRefusal {
+        EncodeRefusal::NoMemory
+    }
+}
+
 impl From<AllocError> for EncodeRefusal {
     ghost from_gives = { λ _ e. e ≡ encoding.NoMemory };
 

@@ -34,7 +34,7 @@ fn rows_fit(rows: &[Counted])
 }
 
 // So the rows of a tally are what they should be.
-fn are_rows(tally: &Tally)
+pub(crate) fn are_rows(tally: &Tally)
     ensures { AreRows tally.now }
 {
     rows_fit(tally.rows());
@@ -77,15 +77,15 @@ pub fn facts_tally(alloc: Global, facts: &Facts) -> Result<Tally, NoMemory>
 }
 
 /// Adds a trace of the same program: its runs, its old runs and its tally. Each number stops at 4,294,967,295.
-pub fn add_trace(into: &mut Trace, from: &Trace) -> Result<(), NoMemory>
+pub fn add_trace(alloc: Global, into: &mut Trace, from: Trace) -> Result<(), NoMemory>
     ensures digest { into.new.digest ≡ into.old.digest }
-    ensures runs { OnOk result (into.new.runs ≡ min (into.old.runs + from.now.runs) most) }
-    ensures old_runs { OnOk result (into.new.old_runs ≡ min (into.old.old_runs + from.now.old_runs) most) }
-    ensures counts { OnOk result ((fact : Fact) → count_of into.new.tally fact ≡ min (count_of into.old.tally fact + count_of from.now.tally fact) most) }
-    ensures sound { OnOk result (IsSound into.old → IsSound from.now → IsSound into.new) }
+    ensures runs { OnOk result (into.new.runs ≡ min (into.old.runs + from.runs) most) }
+    ensures old_runs { OnOk result (into.new.old_runs ≡ min (into.old.old_runs + from.old_runs) most) }
+    ensures counts { OnOk result ((fact : Fact) → count_of into.new.tally fact ≡ min (count_of into.old.tally fact + count_of from.tally fact) most) }
+    ensures sound { OnOk result (IsSound into.old → IsSound from → IsSound into.new) }
     ensures err { OnErr result (into.new ≡ into.old) }
 {
-    add_tally(&mut into.tally, &from.tally)?;
+    into.tally.add(alloc, from.tally)?;
     into.runs = into.runs.saturating_add(from.runs);
     into.old_runs = into.old_runs.saturating_add(from.old_runs);
     Ok(())
@@ -102,8 +102,7 @@ pub fn add_run(alloc: Global, into: &mut Trace, facts: &Facts) -> Result<(), NoM
     ensures err { OnErr result (into.new ≡ into.old) }
 {
     let run = facts_tally(alloc, facts)?;
-    add_tally(&mut into.tally, &run)?;
-    are_rows(&into.tally);
+    into.tally.add_tally(alloc, &run)?;
     into.runs = into.runs.saturating_add(1);
     Ok(())
 }

@@ -1,6 +1,6 @@
 //! A trace, as data.
 
-use atac_facts::tally::Tally;
+use crate::rows::Rows;
 
 /// What is known of the runs of a program.
 #[derive(Drop)]
@@ -12,5 +12,5 @@ pub struct Trace {
     /// How many of them said of each fact only that it was met in one of several runs.
     pub old_runs: u32,
     /// The facts, and in how many runs each was met.
-    pub tally: Tally,
+    pub tally: Rows,
 }

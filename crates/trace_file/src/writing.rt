@@ -7,7 +7,9 @@ ghost use Rattle.trace_file.specs.Layout.{kind_of, size, record_of, rows_in, lis
 ghost use Rattle.trace_file.specs.declared.refusal.EncodeRefusal.TheVariants.{TooMuch};
 
 use crate::kind::Kind;
+use crate::reading::tally_in;
 use crate::refusal::EncodeRefusal;
+use crate::rows::Seen;
 use crate::trace::Trace;
 use atac_facts::fact::Fact;
 use atac_facts::tally::Counted;
@@ -121,16 +123,42 @@ fn put_lists(out: &mut Vec<u8>, rows: &[Counted]) -> Result<(), AllocError>
     put_list(out, Kind::PUses, rows)
 }
 
-fn put_all(alloc: Global, trace: &Trace) -> Result<Vec<u8>, AllocError>
-    requires { length trace.now.tally < 2 ^ 32 }
+fn put_all(alloc: Global, trace: &Trace, rows: &[Counted]) -> Result<Vec<u8>, AllocError>
+    requires same { rows.now ≡ trace.now.tally }
+    requires few { length rows.now < 2 ^ 32 }
     ensures { IfOk result (λ v. v.items ≡ bytes_of trace.now) }
 {
     let mut out = Vec::new(alloc);
     put_opening(&mut out, trace)?;
-    put_lists(&mut out, trace.tally.rows())?;
+    put_lists(&mut out, rows)?;
     let digest = Sha256::digest(out.as_slice());
     out.extend_from_slice(&digest)?;
     Ok(out)
+}
+
+// The same, of these rows.
+fn encode_rows(
+    alloc: Global,
+    trace: &Trace,
+    rows: &[Counted],
+    most: u64,
+) -> Result<Vec<u8>, EncodeRefusal>
+    requires same { rows.now ≡ trace.now.tally }
+    requires most { most ≤ 67108864 }
+    ensures bytes { IfOk result (λ v. v.items ≡ bytes_of trace.now) }
+    ensures spells { IfOk result (λ v. Spells v.items trace.now) }
+    ensures few { IfOk result (λ v. length (bytes_of trace.now) ≤ most) }
+    ensures much { IsErrOf result TooMuch → most < length (bytes_of trace.now) }
+{
+    prove!(digest_of(trace).len() == 32);
+    if most < 94 {
+        return Err(EncodeRefusal::TooMuch);
+    }
+    if !may_take(rows, most - 94) {
+        return Err(EncodeRefusal::TooMuch);
+    }
+    let bytes = put_all(alloc, trace, rows)?;
+    Ok(bytes)
 }
 
 /// The one spelling of the trace in version 2, where it has at most so many bytes. Where the trace is sound, it is decoded as the
@@ -142,13 +170,11 @@ pub fn encode(alloc: Global, trace: &Trace, most: u64) -> Result<Vec<u8>, Encode
     ensures few { IfOk result (λ v. length (bytes_of trace.now) ≤ most) }
     ensures much { IsErrOf result TooMuch → most < length (bytes_of trace.now) }
 {
-    prove!(digest_of(trace).len() == 32);
-    if most < 94 {
-        return Err(EncodeRefusal::TooMuch);
+    match trace.tally.seen() {
+        Seen::Made(rows) => encode_rows(alloc, trace, rows, most),
+        Seen::Read(bytes) => {
+            let tally = tally_in(alloc, bytes)?;
+            encode_rows(alloc, trace, tally.rows(), most)
+        }
     }
-    if !may_take(trace.tally.rows(), most - 94) {
-        return Err(EncodeRefusal::TooMuch);
-    }
-    let bytes = put_all(alloc, trace)?;
-    Ok(bytes)
 }

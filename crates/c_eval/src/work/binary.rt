@@ -16,9 +16,9 @@ ghost use Rattle.c_eval_once.specs.Forms.{Kept};
 use super::Work;
 use crate::frame::{Step, Wait};
 use c_base::place::NoMemory;
-use c_eval_once::direct::direct;
+use c_eval_direct::direct::direct;
 use c_eval_once::leaf::combined;
-use c_eval_once::reply::Reply;
+use c_eval_once::reply::Answer;
 use c_store::value::Value;
 use c_syntax::tree::{BinaryOp, Node};
 use c_tables::tables::Tables;
@@ -47,8 +47,9 @@ impl<'p> Work<'p> {
                 let step = self.go(node, Wait::Operand, a)?;
                 Ok(step)
             }
-            Some(Reply::Stopped(why)) => Ok(Step::Stopped(why)),
-            Some(Reply::Value(value)) => {
+            Some(Answer::NoMemory) => Err(NoMemory),
+            Some(Answer::Stopped(why)) => Ok(Step::Stopped(why)),
+            Some(Answer::Value(value)) => {
                 let step = self.right(tables, world, node, op, a, b, value)?;
                 Ok(step)
             }
@@ -78,8 +79,9 @@ impl<'p> Work<'p> {
                 let step = self.go(node, Wait::Second(first), b)?;
                 Ok(step)
             }
-            Some(Reply::Stopped(why)) => Ok(Step::Stopped(why)),
-            Some(Reply::Value(value)) => Ok(self.meet(node, op, a, b, first, value)),
+            Some(Answer::NoMemory) => Err(NoMemory),
+            Some(Answer::Stopped(why)) => Ok(Step::Stopped(why)),
+            Some(Answer::Value(value)) => Ok(self.meet(node, op, a, b, first, value)),
         }
     }
 

@@ -20,9 +20,9 @@ use super::passing::pass_place;
 use crate::frame::{Step, Wait};
 use c_base::place::NoMemory;
 use c_compute::operators::converted;
+use c_eval_direct::direct::direct;
 use c_eval_once::builtins::built_in;
-use c_eval_once::direct::direct;
-use c_eval_once::reply::Reply;
+use c_eval_once::reply::Answer;
 use c_meaning::end::Stop;
 use c_store::value::{Fault, Value};
 use c_syntax::tree::{CType, Node, Note};
@@ -77,8 +77,9 @@ impl<'p> Work<'p> {
                     let step = self.go(node, Wait::Argument(kinds, behind, done), first)?;
                     return Ok(step);
                 }
-                Some(Reply::Stopped(why)) => return Ok(Step::Stopped(why)),
-                Some(Reply::Value(value)) => {
+                Some(Answer::NoMemory) => return Err(NoMemory),
+                Some(Answer::Stopped(why)) => return Ok(Step::Stopped(why)),
+                Some(Answer::Value(value)) => {
                     match done.push(parameter(kinds, value)) {
                         Err(_) => return Err(NoMemory),
                         Ok(()) => {}

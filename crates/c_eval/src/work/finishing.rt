@@ -17,9 +17,9 @@ ghost use Rattle.c_eval_once.specs.Forms.{Kept};
 use super::Work;
 use crate::frame::{Step, Wait};
 use c_base::place::NoMemory;
-use c_eval_once::direct::direct;
+use c_eval_direct::direct::direct;
 use c_eval_once::leaf::{combined, converted_by, element_at, truth_at};
-use c_eval_once::reply::Reply;
+use c_eval_once::reply::Answer;
 use c_eval_once::telling::{write, write_combined};
 use c_meaning::end::Stop;
 use c_store::value::{Fault, Pointer, Value};
@@ -50,8 +50,9 @@ impl<'p> Work<'p> {
                 let step = self.go(node, wait, operand)?;
                 Ok(step)
             }
-            Some(Reply::Stopped(why)) => Ok(Step::Stopped(why)),
-            Some(Reply::Value(value)) => {
+            Some(Answer::NoMemory) => Err(NoMemory),
+            Some(Answer::Stopped(why)) => Ok(Step::Stopped(why)),
+            Some(Answer::Value(value)) => {
                 let step = self.finish(world, node, wait, value)?;
                 Ok(step)
             }

@@ -14,9 +14,9 @@ ghost use Rattle.c_eval_once.specs.Forms.{Kept};
 use super::Work;
 use crate::frame::{Step, Wait};
 use c_base::place::NoMemory;
+use c_eval_direct::direct::direct;
 use c_eval_once::at_once::place_at_once;
-use c_eval_once::direct::direct;
-use c_eval_once::reply::Reply;
+use c_eval_once::reply::Answer;
 use c_meaning::end::Stop;
 use c_syntax::tree::Node;
 use c_tables::tables::Tables;
@@ -42,8 +42,9 @@ impl<'p> Work<'p> {
                 let step = self.go(node, Wait::Operand, operand)?;
                 Ok(step)
             }
-            Some(Reply::Stopped(why)) => Ok(Step::Stopped(why)),
-            Some(Reply::Value(value)) => {
+            Some(Answer::NoMemory) => Err(NoMemory),
+            Some(Answer::Stopped(why)) => Ok(Step::Stopped(why)),
+            Some(Answer::Value(value)) => {
                 let step = self.take_operand(tables, world, node, value)?;
                 Ok(step)
             }

@@ -17,9 +17,9 @@ use super::Work;
 use super::passing::pass_place;
 use crate::frame::{Frame, Passed, Step, Wait};
 use c_base::place::NoMemory;
+use c_eval_direct::direct::direct;
 use c_eval_once::builtins::built_in;
-use c_eval_once::direct::direct;
-use c_eval_once::reply::Reply;
+use c_eval_once::reply::Answer;
 use c_eval_once::telling::tell_test;
 use c_meaning::end::Stop;
 use c_store::value::{Fault, Pointer, Value};
@@ -43,8 +43,9 @@ impl<'p> Work<'p> {
         match self.pass(world, node)? {
             Passed::Stopped(why) => Ok(Step::Stopped(why)),
             Passed::Node(node) => match direct(tables, world, node) {
-                Some(Reply::Value(value)) => Ok(self.now(Some(value))),
-                Some(Reply::Stopped(why)) => Ok(Step::Stopped(why)),
+                Some(Answer::Value(value)) => Ok(self.now(Some(value))),
+                Some(Answer::NoMemory) => Err(NoMemory),
+                Some(Answer::Stopped(why)) => Ok(Step::Stopped(why)),
                 None => {
                     let step = self.descend(tables, world, node)?;
                     Ok(step)

@@ -20,6 +20,7 @@ use crate::frame::{Step, Wait};
 use c_base::place::NoMemory;
 use c_eval_once::builtins::built_in;
 use c_eval_once::leaf::leaf;
+use c_eval_once::reply::reply_of;
 use c_meaning::end::Stop;
 use c_syntax::tree::{Expr, Node, UnaryOp};
 use c_tables::tables::Tables;
@@ -46,7 +47,10 @@ impl<'p> Work<'p> {
             | Expr::Str(_)
             | Expr::Name(_)
             | Expr::SizeOf(_)
-            | Expr::SizeOfType(_) => Ok(self.reply(leaf(node))),
+            | Expr::SizeOfType(_) => {
+                let reply = reply_of(leaf(node))?;
+                Ok(self.reply(reply))
+            }
             Expr::Call(_, args) => {
                 let step = self.call(tables, world, node, args)?;
                 Ok(step)

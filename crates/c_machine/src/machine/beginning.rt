@@ -16,8 +16,8 @@ use crate::marks::log_marks;
 use crate::parts::{Purpose, Step, Use, Waiting};
 use c_base::place::NoMemory;
 use c_compute::operators::is_true;
-use c_eval_once::direct::direct;
-use c_eval_once::reply::Reply;
+use c_eval_direct::direct::direct;
+use c_eval_once::reply::Answer;
 use c_meaning::end::{Flow, Stop};
 use c_plan::block::Block;
 use c_plan::placed::Placed;
@@ -90,8 +90,14 @@ impl<'p> Machine<'p> {
                 let step = self.compound(plan, world, block)?;
                 Ok(step)
             }
-            StmtForm::Plain(node) => Ok(self.plain(plan, world, node)),
-            StmtForm::If(test, _, _) => Ok(self.choice(plan, world, test, placed)),
+            StmtForm::Plain(node) => {
+                let step = self.plain(plan, world, node)?;
+                Ok(step)
+            }
+            StmtForm::If(test, _, _) => {
+                let step = self.choice(plan, world, test, placed)?;
+                Ok(step)
+            }
             StmtForm::While(_, _) => {
                 let step = self.again(plan, world, placed)?;
                 Ok(step)
@@ -109,7 +115,10 @@ impl<'p> Machine<'p> {
             }
             StmtForm::Break => Ok(self.leave(Flow::Break)),
             StmtForm::Continue => Ok(self.leave(Flow::Continue)),
-            StmtForm::Return(node) => Ok(self.give(plan, world, node)),
+            StmtForm::Return(node) => {
+                let step = self.give(plan, world, node)?;
+                Ok(step)
+            }
         }
     }
 
@@ -135,20 +144,26 @@ impl<'p> Machine<'p> {
 
     // An expression statement (C89, 3.6.3).
     #[inline(always)]
-    fn plain(&mut self, plan: &'p Plan<'p>, world: &mut World<'p>, node: &'p Option<Node>) -> Step
+    fn plain(
+        &mut self,
+        plan: &'p Plan<'p>,
+        world: &mut World<'p>,
+        node: &'p Option<Node>,
+    ) -> Result<Step, NoMemory>
         requires program { world.old.program.now ≡ plan.now.program.now }
         requires tied { Tied self.old world.old }
-        ensures left { LeavesIn plan.now.program.now result self.new world.new self.old world.old (λ t k. form_flow t k (simply (maybe_node node.now)) (quiet 0)) }
-        ensures tied { OnMore result (Tied self.new world.new) }
-        ensures size { OnMore result (12 * world.new.turns + machine_size self.new ≤ 12 * world.old.turns + 1 + all_weights self.old.waiting.items) }
-        ensures same { Same world.old world.new }
+        ensures left { IfOk result (λ a. LeavesIn plan.now.program.now a self.new world.new self.old world.old (λ t k. form_flow t k (simply (maybe_node node.now)) (quiet 0))) }
+        ensures tied { IfOk result (λ a. OnMore a (Tied self.new world.new)) }
+        ensures size { IfOk result (λ a. OnMore a (12 * world.new.turns + machine_size self.new ≤ 12 * world.old.turns + 1 + all_weights self.old.waiting.items)) }
+        ensures same { OnOk result (Same world.old world.new) }
     {
         match node {
-            None => self.leave(Flow::Next),
+            None => Ok(self.leave(Flow::Next)),
             Some(node) => match direct(world.tables(), world, node) {
-                None => self.work_at(node, Use::Discard),
-                Some(Reply::Stopped(why)) => Step::Stopped(why),
-                Some(Reply::Value(_)) => self.leave(Flow::Next),
+                None => Ok(self.work_at(node, Use::Discard)),
+                Some(Answer::NoMemory) => Err(NoMemory),
+                Some(Answer::Stopped(why)) => Ok(Step::Stopped(why)),
+                Some(Answer::Value(_)) => Ok(self.leave(Flow::Next)),
             },
         }
     }
@@ -161,18 +176,19 @@ impl<'p> Machine<'p> {
         world: &mut World<'p>,
         test: &'p Node,
         placed: Placed<'p>,
-    ) -> Step
+    ) -> Result<Step, NoMemory>
         requires program { world.old.program.now ≡ plan.now.program.now }
         requires tied { Tied self.old world.old }
-        ensures left { UsesIn plan.now.program.now result self.new world.new self.old world.old (node_shape test.now) (Use.Stmt Purpose.Choose placed.entry) }
-        ensures tied { OnMore result (Tied self.new world.new) }
-        ensures size { OnMore result (12 * world.new.turns + machine_size self.new ≤ 12 * world.old.turns + 1 + all_weights self.old.waiting.items) }
-        ensures same { Same world.old world.new }
+        ensures left { IfOk result (λ a. UsesIn plan.now.program.now a self.new world.new self.old world.old (node_shape test.now) (Use.Stmt Purpose.Choose placed.entry)) }
+        ensures tied { IfOk result (λ a. OnMore a (Tied self.new world.new)) }
+        ensures size { IfOk result (λ a. OnMore a (12 * world.new.turns + machine_size self.new ≤ 12 * world.old.turns + 1 + all_weights self.old.waiting.items)) }
+        ensures same { OnOk result (Same world.old world.new) }
     {
         match direct(world.tables(), world, test) {
-            None => self.work_at(test, Use::Stmt(Purpose::Choose, placed)),
-            Some(Reply::Stopped(why)) => Step::Stopped(why),
-            Some(Reply::Value(value)) => self.choose(placed, is_true(value)),
+            None => Ok(self.work_at(test, Use::Stmt(Purpose::Choose, placed))),
+            Some(Answer::NoMemory) => Err(NoMemory),
+            Some(Answer::Stopped(why)) => Ok(Step::Stopped(why)),
+            Some(Answer::Value(value)) => Ok(self.choose(placed, is_true(value))),
         }
     }
 
@@ -206,20 +222,26 @@ impl<'p> Machine<'p> {
 
     // A `return` (C89, 3.6.6.4).
     #[inline(always)]
-    fn give(&mut self, plan: &'p Plan<'p>, world: &mut World<'p>, node: &'p Option<Node>) -> Step
+    fn give(
+        &mut self,
+        plan: &'p Plan<'p>,
+        world: &mut World<'p>,
+        node: &'p Option<Node>,
+    ) -> Result<Step, NoMemory>
         requires program { world.old.program.now ≡ plan.now.program.now }
         requires tied { Tied self.old world.old }
-        ensures left { LeavesIn plan.now.program.now result self.new world.new self.old world.old (λ t k. form_flow t k (return (maybe_node node.now)) (quiet 0)) }
-        ensures tied { OnMore result (Tied self.new world.new) }
-        ensures size { OnMore result (12 * world.new.turns + machine_size self.new ≤ 12 * world.old.turns + 1 + all_weights self.old.waiting.items) }
-        ensures same { Same world.old world.new }
+        ensures left { IfOk result (λ a. LeavesIn plan.now.program.now a self.new world.new self.old world.old (λ t k. form_flow t k (return (maybe_node node.now)) (quiet 0))) }
+        ensures tied { IfOk result (λ a. OnMore a (Tied self.new world.new)) }
+        ensures size { IfOk result (λ a. OnMore a (12 * world.new.turns + machine_size self.new ≤ 12 * world.old.turns + 1 + all_weights self.old.waiting.items)) }
+        ensures same { OnOk result (Same world.old world.new) }
     {
         match node {
-            None => self.leave(Flow::Return(None)),
+            None => Ok(self.leave(Flow::Return(None))),
             Some(node) => match direct(world.tables(), world, node) {
-                None => self.work_at(node, Use::Return),
-                Some(Reply::Stopped(why)) => Step::Stopped(why),
-                Some(Reply::Value(value)) => self.leave(Flow::Return(Some(value))),
+                None => Ok(self.work_at(node, Use::Return)),
+                Some(Answer::NoMemory) => Err(NoMemory),
+                Some(Answer::Stopped(why)) => Ok(Step::Stopped(why)),
+                Some(Answer::Value(value)) => Ok(self.leave(Flow::Return(Some(value)))),
             },
         }
     }

@@ -11,8 +11,8 @@ use super::leaving::untyped;
 use crate::parts::{Purpose, Step, Use, Waiting};
 use c_base::place::NoMemory;
 use c_compute::operators::is_true;
-use c_eval_once::direct::direct;
-use c_eval_once::reply::Reply;
+use c_eval_direct::direct::direct;
+use c_eval_once::reply::Answer;
 use c_meaning::end::Flow;
 use c_plan::placed::Placed;
 use c_plan::plan::Plan;
@@ -66,8 +66,9 @@ impl<'p> Machine<'p> {
     {
         match direct(world.tables(), world, test) {
             None => Ok(self.work_at(test, Use::Stmt(Purpose::Test, placed))),
-            Some(Reply::Stopped(why)) => Ok(Step::Stopped(why)),
-            Some(Reply::Value(value)) => {
+            Some(Answer::NoMemory) => Err(NoMemory),
+            Some(Answer::Stopped(why)) => Ok(Step::Stopped(why)),
+            Some(Answer::Value(value)) => {
                 let step = self.turn_if(placed, is_true(value))?;
                 Ok(step)
             }
@@ -92,8 +93,9 @@ impl<'p> Machine<'p> {
     {
         match direct(world.tables(), world, node) {
             None => Ok(self.work_at(node, Use::Stmt(Purpose::Again, placed))),
-            Some(Reply::Stopped(why)) => Ok(Step::Stopped(why)),
-            Some(Reply::Value(_)) => {
+            Some(Answer::NoMemory) => Err(NoMemory),
+            Some(Answer::Stopped(why)) => Ok(Step::Stopped(why)),
+            Some(Answer::Value(_)) => {
                 let step = self.again(plan, world, placed)?;
                 Ok(step)
             }

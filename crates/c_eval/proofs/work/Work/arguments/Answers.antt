@@ -1,15 +1,16 @@
-use Rattle.std.proofs.Common.{◌≡◌, ◌∙◌, ◌++◌, ◌∷◌, ap, sym, refl, map, arith}
+use Rattle.std.proofs.Common.{◌≡◌, ◌∙◌, ◌++◌, ◌∷◌, ap, sym, refl, subst, map, arith}
 use Rattle.c_syntax.specs.View.{note_shape, node_shape, node_list, type_of}
 use Rattle.c_tables.specs.Tables.{tables_shape}
 use Rattle.c_meaning.specs.Firsts.{quiet}
 use Rattle.c_meaning.specs.Results.{then_do}
 use Rattle.c_meaning.specs.Builtins.{called, as_parameter}
-use Rattle.c_meaning.specs.Expressions.{arguments, gives}
+use Rattle.c_meaning.specs.Expressions.{arguments}
 use Rattle.c_world.specs.World.{state_of}
 use Rattle.c_eval.specs.declared.frame.Wait.TheVariants as wait
-use Rattle.c_eval_once.specs.declared.reply.Reply.TheVariants as reply
+use Rattle.c_eval_once.specs.declared.reply.Answer.TheVariants as answered
 use Rattle.c_eval.specs.Rest.{Val, waiting, all_do, answer, left, to_value, weights}
-use Rattle.c_eval_once.specs.Parts.{replied, value}
+use Rattle.c_eval_once.specs.Parts.{value}
+use Rattle.c_eval_once.specs.Forms.{Meets}
 use Rattle.c_eval.proofs.Opened.{no_arguments, argument_opens, argument_taken}
 use Rattle.c_eval.proofs.Roles.{kept_further}
 use Rattle.c_eval.proofs.work.Work.arguments.Goals as goal
@@ -52,8 +53,8 @@ loop-first-preserved c = (
   c.loop-first.invariant.0,
   λ k h.
       let t = tables_shape c.args.tables.now in
-      let i : c.in-Some-Value.field-0 ≡ reply.Value c.in-Some-Value.value = c.in-Some-Value.field-0-is in
-      argument_taken t k (note_shape c.args.node.now.note) c.in-Some.first.now c.loop-first.others.now c.in-Some.behind.now (map type_of c.loop-first.kinds.now) (map type_of c.behind_first-kinds.result.now) (state_of c.loop-first.world h) (state_of c.direct.new.world h) c.in-Some-Value.value c.parameter.result c.loop-first.done.items c.push.new.self.items (to_value (left t k c.args.self.now)) (c.in-Some-Value.ensures.is k h ∙ ap (λ r. then_do (replied r (state_of c.direct.new.world h)) gives) i) c.in-Some.ensures.cases.0 c.behind_first-kinds.ensures (c.parameter.ensures ∙ ap (as_parameter (map type_of c.loop-first.kinds.now)) c.in-Some-Value.value-is) c.in-Ok.ensures.items
+      let i : c.in-Some-Value.field-0 ≡ answered.Value c.in-Some-Value.value = c.in-Some-Value.field-0-is in
+      argument_taken t k (note_shape c.args.node.now.note) c.in-Some.first.now c.loop-first.others.now c.in-Some.behind.now (map type_of c.loop-first.kinds.now) (map type_of c.behind_first-kinds.result.now) (state_of c.loop-first.world h) (state_of c.direct.new.world h) c.in-Some-Value.value c.parameter.result c.loop-first.done.items c.push.new.self.items (to_value (left t k c.args.self.now)) (subst (λ a. Meets a (state_of c.direct.new.world h) (value t k (node_shape c.in-Some.first.now) (state_of c.loop-first.world h))) i (c.in-Some-Value.ensures.is k h)) c.in-Some.ensures.cases.0 c.behind_first-kinds.ensures (c.parameter.ensures ∙ ap (as_parameter (map type_of c.loop-first.kinds.now)) c.in-Some-Value.value-is) c.in-Ok.ensures.items
       ∙ c.loop-first.invariant.1 k h,
   omega (arith, c.in-Some-Value.ensures.turns, c.loop-first.invariant.2),
   kept_further _ _ _ c.loop-first.invariant.3 c.in-Some-Value.ensures.kept,

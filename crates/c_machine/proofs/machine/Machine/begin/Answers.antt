@@ -19,10 +19,10 @@ returns-in_ok-step-in-Compound-clause-left c = λ h.
     ∙ ap (λ r. then_do r (behind t k c.args.self.now)) (scoped_is t k c.of-block.result (compound_shape c.in-Compound.body) c.args.placed.before s c.of-block.ensures)
     ∙ ap (λ f. then_do (form_flow t k f (quiet c.args.placed.before) s) (behind t k c.args.self.now)) (sym (ap form_shape c.in-Compound.is))
 
-pub returns-in-If-clause-left : goal.returns-in-If-clause-left
-returns-in-If-clause-left c = λ h.
+pub returns-in_ok-step-in-If-clause-left : goal.returns-in_ok-step-in-If-clause-left
+returns-in_ok-step-in-If-clause-left c = λ h.
     let p = c.args.plan.now.program.now in
-    c.choice.ensures.left h
+    c.in_ok-step-in-If.ensures.left h
     ∙ if_opens (tables_shape p.tables) (knot_of p) c.args.placed.stmt.now.form c.in-If.test c.in-If.field-1 c.in-If.field-2 c.args.placed.before (state_of c.args.world.now h) (behind (tables_shape p.tables) (knot_of p) c.args.self.now) c.in-If.is
 
 pub returns-in-Switch-clause-left : goal.returns-in-Switch-clause-left

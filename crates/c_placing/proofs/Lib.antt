@@ -1,0 +1,4 @@
+pub mod Placing
+pub mod PlacedShaped
+pub mod PlacedEqual
+pub mod Written

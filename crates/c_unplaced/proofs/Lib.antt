@@ -1,0 +1,6 @@
+mod Rules
+mod Nodes
+mod Decls
+mod Functions
+mod Statements
+pub mod Units

@@ -1,0 +1,7 @@
+mod Apt
+mod Orders
+mod AptNodes
+mod AptDecls
+mod AptStatements
+mod AptUnits
+pub mod Laws

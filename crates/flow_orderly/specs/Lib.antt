@@ -1,0 +1,2 @@
+pub mod Initialised
+pub mod Laws

@@ -1,0 +1,12 @@
+//! The laws, as contracts.
+
+ghost use Rattle.flow_orderly.specs.Laws.{AcceptedIsOrderly, AcceptedCallsWalk, AcceptedCallsLeave};
+
+/// A program of the checker that isn't refused is orderly, where each string and list that initialises a local variable
+/// gives it a value; so what each call of a run did by itself is a walk of its function.
+#[tactic(auto, using(crate::proofs::Laws::accepted_is_orderly))]
+pub fn accepted_is_orderly()
+    ensures orderly { AcceptedIsOrderly }
+    ensures walks { AcceptedCallsWalk }
+    ensures leaves { AcceptedCallsLeave }
+{}

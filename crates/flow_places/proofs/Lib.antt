@@ -1,0 +1,11 @@
+pub mod Bound
+pub mod Good
+pub mod Safe
+pub mod Parts
+pub mod Nodes
+pub mod Declarations
+pub mod Flows
+pub mod Routines
+pub mod Early
+pub mod Laws
+pub mod Worked

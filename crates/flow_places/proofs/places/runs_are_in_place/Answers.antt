@@ -1,0 +1,5 @@
+use Rattle.flow_places.proofs.Laws.{run_pairs_are_listed}
+use Rattle.flow_places.proofs.places.runs_are_in_place.Goals as goal
+
+pub returns-clause-pairs : goal.returns-clause-pairs
+returns-clause-pairs c = run_pairs_are_listed

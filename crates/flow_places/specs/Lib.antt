@@ -1,0 +1,3 @@
+pub mod Sited
+pub mod Declared
+pub mod Laws

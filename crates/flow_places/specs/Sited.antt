@@ -1,0 +1,110 @@
+-- Which sites may be told of in a program: of an expression, those that are a local variable itself, by the numbers that the walk gives them. No
+-- probe stands in it.
+use Rattle.std.specs.Prelude.{◌≡◌, ℕ, Contains, List, [], ◌∷◌, true, false, Option, Some, None}
+use Rattle.c_base.specs.declared.place.Pos.{Pos}
+use Rattle.c_syntax.specs.Shape.{NoteShape, typed, name, unary, before, size_of, plain, and, or, assign, comma, NodeShape, node, ExprShape, leaf, paren, call, prefix, size_of_type, cast, suffix, two, choose, probe, index, field, behind, NodeShapes, no_nodes, more_nodes, MaybeNode, no_node, one_node}
+use Rattle.c_walk.specs.declared.around.Around.{Around}
+use Rattle.c_walk.specs.declared.around.Taken.{Taken}
+use Rattle.c_walk.specs.declared.around.Taken.TheVariants.{Read, Changed}
+use Rattle.c_walk.specs.Walked.{Walked, operand_taken, left_taken, with_block, pos_of, inside_test, with_test, with_site}
+use Rattle.c_walk.specs.Counted.{next_def, next_use}
+use Rattle.c_walk.specs.Walking.{walk_node, walk_test, walk_arm}
+use Rattle.c_meaning.specs.State.{Bound, found_in}
+use Rattle.flow_walks.specs.Expressions.{reads}
+use Rattle.flow_misses.specs.Placing.{Local, Sites}
+
+-- ---- variables by name
+
+abbrev pub named_in : NoteShape → Option ℕ
+named_in (typed k (Some v)) = Some v
+named_in n = None
+
+-- the variable that the expression is the name of, in parentheses or not
+abbrev mutual
+  pub variable_named : NodeShape → Option ℕ
+  variable_named (node p o n f) = form_names n f
+
+  pub form_names : NoteShape → ExprShape → Option ℕ
+  form_names n (leaf (name x)) = named_in n
+  form_names n (paren a) = variable_named a
+  form_names n f = None
+
+-- ---- sites, where these are the variables of file scope
+
+-- the site is that variable itself, which is a local one
+pub record IsItself (F : List Bound) (named : Option ℕ) (v : Local) : Type 0 where
+  pub is : named ≡ Some v.variable
+  pub local : found_in v.variable F ≡ None
+
+-- a use: none that is told of, or the variable, at its first cell
+abbrev pub IsUse : Sites → List Bound → Option ℕ → Option Local → Type 0
+IsUse S F named None = Unit {0}
+IsUse S F named (Some v) = IsItself F named v × Contains v.names (S.leaf v.variable 0)
+
+-- a definition: none, or the variable, by its one name
+abbrev pub IsDefinition : Sites → List Bound → Option ℕ → Option Local → Type 0
+IsDefinition S F named None = Unit {0}
+IsDefinition S F named (Some v) = IsItself F named v × (v.parameter ≡ false) × (v.names ≡ S.leaf v.variable 0 ∷ [])
+
+module _ (S : Sites) (F : List Bound) where
+  -- where a place by itself is read
+  abbrev pub IsReadSite : Taken → NoteShape → ExprShape → Walked → Type 0
+  IsReadSite r n f w = reads r n f ≡ true → IsUse S F (form_names n f) (S.used (next_use w))
+
+  abbrev pub IsUsedSite : NodeShape → Walked → Type 0
+  IsUsedSite a w = IsUse S F (variable_named a) (S.used (next_use w))
+
+  abbrev pub IsDefinedSite : NodeShape → Walked → Type 0
+  IsDefinedSite a w = IsDefinition S F (variable_named a) (S.defined (next_def w))
+
+  -- each site of an expression, behind what was walked through
+  abbrev mutual
+    pub IsSited : Around → Taken → NodeShape → Walked → Type 0
+    IsSited c r (node p o n f) w = IsFormSited c r p n f w
+
+    pub IsFormSited : Around → Taken → Pos → NoteShape → ExprShape → Walked → Type 0
+    IsFormSited c r p n (leaf l) w = IsReadSite r n (leaf l) w
+    IsFormSited c r p n (paren a) w = IsSited c r a w
+    IsFormSited c r p n (probe u a) w = ⊥
+    IsFormSited c r p n (call x args) w = AreSited c args w
+    IsFormSited c r p n (prefix (unary u) a) w = IsReadSite r n (prefix (unary u) a) w × IsSited c (operand_taken u) a (with_site c r p n (prefix (unary u) a) w)
+    IsFormSited c r p n (prefix (before u) a) w = IsSited c Changed a w × IsUsedSite a w × IsDefinedSite a w
+    IsFormSited c r p n (prefix size_of a) w = Unit {0}
+    IsFormSited c r p n (size_of_type y) w = Unit {0}
+    IsFormSited c r p n (cast y a) w = IsSited c Read a w
+    IsFormSited c r p n (suffix a (index b)) w =
+        let j = with_site c r p n (suffix a (index b)) w in
+        IsReadSite r n (suffix a (index b)) w × IsSited c Read a j × IsSited c Read b (walk_node c Read a j)
+    IsFormSited c r p n (suffix a (field h x q)) w = IsReadSite r n (suffix a (field h x q)) w × IsSited c Read a (with_site c r p n (suffix a (field h x q)) w)
+    IsFormSited c r p n (suffix a (behind u)) w = IsSited c Changed a w × IsUsedSite a w × IsDefinedSite a w
+    IsFormSited c r p n (two (plain u) a b) w = IsSited c Read a w × IsSited c Read b (walk_node c Read a w)
+    IsFormSited c r p n (two comma a b) w = IsSited c Read a w × IsSited c Read b (walk_node c Read a w)
+    IsFormSited c r p n (two and a b) w = IsTestSited c a w × IsTestSited c b (with_block (pos_of b) (walk_test c a w))
+    IsFormSited c r p n (two or a b) w = IsTestSited c a w × IsTestSited c b (with_block (pos_of b) (walk_test c a w))
+    IsFormSited c r p n (two (assign None) a b) w = IsSited c (left_taken None) a w × IsDefinedSite a w × IsSited c Read b (walk_node c (left_taken None) a w)
+    IsFormSited c r p n (two (assign (Some u)) a b) w = IsSited c Changed a w × IsUsedSite a w × IsDefinedSite a w × IsSited c Read b (walk_node c Changed a w)
+    IsFormSited c r p n (choose a b d) w = IsTestSited c a w × IsArmSited c b (walk_test c a w) × IsArmSited c d (walk_arm c b (walk_test c a w))
+
+    -- an expression at a test position, and one that is a block
+    pub IsTestSited : Around → NodeShape → Walked → Type 0
+    IsTestSited c (node p o n f) w = IsFormSited (inside_test c f w) Read p n f (with_test p f w)
+
+    pub IsArmSited : Around → NodeShape → Walked → Type 0
+    IsArmSited c (node p o n f) w = IsFormSited c Read p n f (with_block p w)
+
+    pub AreSited : Around → NodeShapes → Walked → Type 0
+    AreSited c no_nodes w = Unit {0}
+    AreSited c (more_nodes a rest) w = IsSited c Read a w × AreSited c rest (walk_node c Read a w)
+
+  abbrev pub IsMaybeSited : Around → MaybeNode → Walked → Type 0
+  IsMaybeSited c no_node w = Unit {0}
+  IsMaybeSited c (one_node a) w = IsSited c Read a w
+
+  -- the test of a loop, and the step of a `for`
+  abbrev pub IsLoopTestSited : Around → MaybeNode → Walked → Type 0
+  IsLoopTestSited c no_node w = Unit {0}
+  IsLoopTestSited c (one_node a) w = IsTestSited c a (with_block (pos_of a) w)
+
+  abbrev pub IsStepSited : Around → MaybeNode → Walked → Type 0
+  IsStepSited c no_node w = Unit {0}
+  IsStepSited c (one_node a) w = IsArmSited c a w

@@ -1,0 +1,9 @@
+pub mod Woven
+pub mod WovenNodes
+pub mod WovenUnits
+pub mod Readable
+pub mod BareForms
+pub mod Firm
+pub mod FirmUnits
+pub mod Parsed
+pub mod Sizes

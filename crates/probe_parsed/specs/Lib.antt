@@ -1,0 +1,3 @@
+pub mod Readable
+pub mod Parsed
+pub mod Sizes

@@ -1,0 +1,2 @@
+mod ShapedBare
+pub mod ReadBack

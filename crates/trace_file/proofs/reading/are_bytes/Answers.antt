@@ -1,0 +1,6 @@
+-- What the type says of each byte.
+use Rattle.std.proofs.Common.{arith}
+use Rattle.trace_file.proofs.reading.are_bytes.Goals as goal
+
+pub returns : goal.returns
+returns c = λ i. omega (arith, c.type_inv.bytes i)
