@@ -6,15 +6,14 @@ ghost use Rattle.c_events.specs.declared.events.Event.{Event};
 ghost use Rattle.c_events.specs.declared.events.Event.TheVariants as event;
 ghost use Rattle.cover_parts.specs.Covered.{IsFree};
 
+use crate::noted::Noted;
 use atac_base::probes::Probes;
-use atac_facts::fact::Fact;
 use atac_facts::facts::Facts;
 use c_base::place::NoMemory;
 use c_events::events::Event;
 use c_events::owners::Owners;
 use cover_parts::pending::Pending;
 use cover_parts::rows::Rows;
-use cover_parts::settle::{note, reach, settle};
 use std::alloc::Global;
 
 /// Keeps the facts of the events that it sees, and no event: for each live cell its last definition, and the pairs that wait
@@ -25,7 +24,7 @@ pub struct Collector {
     owners: Owners,
     rows: Rows,
     pending: Pending,
-    facts: Facts,
+    facts: Noted,
 }
 
 impl Collector {
@@ -51,7 +50,7 @@ impl Collector {
             owners,
             rows: Rows::new(alloc),
             pending: Pending::new(alloc),
-            facts: Facts::new(alloc),
+            facts: Noted::new(alloc),
         }
     }
 
@@ -65,14 +64,14 @@ impl Collector {
     {
         self.rows.clear();
         self.pending.clear();
-        self.facts = Facts::new(self.alloc);
+        self.facts = Noted::new(self.alloc);
     }
 
     /// The facts of the events so far.
     pub fn facts(&self) -> &Facts
         ensures { (h : List Event) → ⟦<Collector as Probes>⟧.stands_for self.now h → (f : Fact) → Has result.now f ↔ Covered (owner_in (owners_of self.now)) h f }
     {
-        &self.facts
+        self.facts.facts()
     }
 
     /// How many definition words it holds: one for each cell of an instance that was made and hasn't ended.
@@ -121,7 +120,7 @@ impl Probes for Collector {
         ensures goes_by { ⟦<Collector as Probes>⟧.owners self.new ≡ ⟦<Collector as Probes>⟧.owners self.old }
     {
         match event {
-            Event::Block(k) => note(&mut self.facts, Fact::Block(k)),
+            Event::Block(k) => self.facts.note_block(k),
             Event::Def(d, at) => {
                 if self.rows.define(at, d) {
                     Ok(())
@@ -137,9 +136,9 @@ impl Probes for Collector {
                     return Ok(());
                 };
                 let owner = self.owners.of(u);
-                reach(&mut self.facts, &mut self.pending, owner, d, u, a)
+                self.facts.reach(&mut self.pending, owner, d, u, a)
             }
-            Event::Test(k, o, a) => settle(&mut self.facts, &mut self.pending, k, o, a),
+            Event::Test(k, o, a) => self.facts.settle(&mut self.pending, k, o, a),
         }
     }
 

@@ -2,3 +2,4 @@
 #![tactic(auto)]
 
 pub mod collector;
+pub mod noted;

@@ -53,9 +53,9 @@ pub fn reach(
     add(facts, pair)
 }
 
-// Lets a pair wait, where its use has an owner.
+/// Lets a pair wait, where its use has an owner. After `NoMemory` the same pairs wait as before.
 #[inline]
-fn wait(
+pub fn wait(
     pending: &mut Pending,
     owner: Option<u16>,
     definition: u16,

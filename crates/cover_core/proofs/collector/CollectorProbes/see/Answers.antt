@@ -13,10 +13,10 @@ use Rattle.cover_core.proofs.collector.CollectorProbes.see.Goals as goal
 -- BLOCKS
 
 pub returns-in-Block-clause-seen : goal.returns-in-Block-clause-seen
-returns-in-Block-clause-seen c = rw c.in-Block.is (on_ok c.note.result (λ g h s. block_stands _ _ _ _ _ h _ g s) c.note.ensures.noted)
+returns-in-Block-clause-seen c = rw c.in-Block.is (on_ok c.note_block.result (λ g h s. block_stands _ _ _ _ _ h _ g s) c.note_block.ensures.noted)
 
 pub returns-in-Block-clause-frees : goal.returns-in-Block-clause-frees
-returns-in-Block-clause-frees c = rw c.in-Block.is (λ _ f. c.note.ensures.there (free_block _ _ _ _ f.0 _ f.1 f.2))
+returns-in-Block-clause-frees c = rw c.in-Block.is (λ _ f. c.note_block.ensures.there (free_block _ _ _ _ f.0 _ f.1 f.2))
 
 -- DEFINITIONS
 
