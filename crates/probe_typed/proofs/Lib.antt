@@ -1,1 +1,8 @@
-pub mod Expressions
+mod Follows
+mod Near
+mod Probes
+mod Sites
+mod Written
+mod Tests
+mod Expressions
+pub mod Parts

@@ -1,6 +1,7 @@
 -- What is typed of expressions with their probes, behind a typing of the expressions without them in which nothing is complained of: the
 -- expressions with their probes as they stand, with the notes that they have, and the sort of those without.
 use Rattle.std.specs.Prelude.{◌≡◌, ℕ, List, Bool, true, Option, Some, None, option_map}
+use Rattle.c_base.specs.declared.place.Pos.{Pos}
 use Rattle.c_syntax.specs.Shape.{TypeOf, NodeShape, NodeShapes, MaybeNode}
 use Rattle.c_syntax.specs.Shaped.{Shaped, ShapedNodes, ShapedMaybe}
 use Rattle.c_type_rules.specs.Kinds.{is_scalar, decay}
@@ -12,7 +13,7 @@ use Rattle.c_tree.specs.Operators.{Given}
 use Rattle.c_tree.specs.Parts.{TypedNodes}
 use Rattle.c_tree.specs.Complaints.{wrong_type}
 use Rattle.c_tree.specs.Typing.{type_node, type_arguments}
-use Rattle.c_tree.specs.Stating.{TypedMaybe, tested, type_maybe, type_test}
+use Rattle.c_tree.specs.Stating.{TypedMaybe, tested, type_maybe, type_test, type_result}
 use Rattle.c_walk.specs.declared.around.Around.{Around}
 use Rattle.c_walk.specs.declared.around.Taken.{Taken}
 use Rattle.c_walk.specs.declared.around.Taken.TheVariants.{Read, Written, Changed, Addressed}
@@ -142,6 +143,14 @@ StepsAreTypedAs = (b : Bool) (c : Around) (l : ℕ) (a : MaybeNode) (w : Walked)
     let v = walk_step c x.node w in
     IsClean x.state → HasFewItems v → Follows w s t → MaybeTypedAs v x p (type_maybe p t))
 
--- the test of an `if` or a `switch`-less loop, judged where it stands
-abbrev pub TestedFollow : Type 0
-TestedFollow = (v : Walked) (first last : ℕ) (x y : TypedNode) (b : NodeShape) → MayBeTested x.sort → IsTypedNear v x b y → Follows v (tested first x) (tested last y)
+-- what a function gives back
+abbrev pub ResultsAreTypedAs : Type 0
+ResultsAreTypedAs = (b : Bool) (c : Around) (token last : ℕ) (p : Pos) (k : Option TypeOf) (l : ℕ) (a : MaybeNode) (w : Walked) (s t : State) → ShapedMaybe l a → maybe_mark a ≡ None → Knows b s → (
+    let x = type_result token p k a s in
+    let q = probed_maybe c x.node w in
+    let v = walk_maybe c x.node w in
+    IsClean x.state → HasFewItems v → Follows w s t → MaybeTypedAs v x q (type_result last p k q t))
+
+-- a test of a statement, judged behind it
+abbrev pub TestsAreJudgedAlike : Type 0
+TestsAreJudgedAlike = (v : Walked) (first last : ℕ) (x : TypedNode) (b : NodeShape) (y : TypedNode) → IsTypedNear v x b y → Follows v (tested first x) (tested last y)
