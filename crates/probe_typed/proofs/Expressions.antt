@@ -138,9 +138,9 @@ mutual
       let g = probed_form c r x.form u in
       let e = is_still_clean s x.state begun clean in
       let sites = subst (λ b. HasSites b r p o x g) (sym e) (form_sites r p o f s g) in
-      let able = subst (λ b. MayBeTaken r (cleared b x.typing.sort)) e able in
+      let taken = subst (λ b. MayBeTaken r (cleared b x.typing.sort)) e able in
       sited_typed (is_place x.form) c r p (direct_form note x.form) (has_scalar note) w v (noted p o s x) (node p o note g) s (sites able) begun clean (few_before (form_before c r x.form u) few)
-      (λ t' al'. noted_typed v p o s t' x (type_form p o g t') g begun clean (clean_too u al' begun) (form_typed c r p o f u is.1 m h clean able few al')) t al
+      (λ t' al'. noted_typed v p o s t' x (type_form p o g t') g begun clean (clean_too u al' begun) (form_typed c r p o f u is.1 m h clean taken few al')) t al
 
   form_typed : {b : Bool} (c : Around) (r : Taken) (p o : Pos) (f : ExprShape) (w : Walked) {s t : State} → ShapedExpr f → form_mark p f ≡ None → Knows b s → (
       let x = type_form p o f s in
@@ -279,9 +279,9 @@ mutual
       let tests = logical_tested x.sort y.sort (infix_there x.state.at o s.at (pos_in a) and x.sort y.sort y.state one.0 other.0 clean) in
       let u = walk_test c x.node w in
       let v = walk_loop_test c y.node u in
-      let i = test_from c a w s (λ d v few t al. node_typed d Read a v {s} {t} is.2 (none_first (node_mark a) (node_mark e) m) h early tt few al) (back (node_grows a s) early) early tests.0 (few_before (right_before c x.node y.node w) few) t al in
+      let i = test_from c a w s (λ d v few t al. node_typed d Read a v is.2 (none_first (node_mark a) (node_mark e) m) h early tt few al) (back (node_grows a s) early) early tests.0 (few_before (right_before c x.node y.node w) few) t al in
       let x' = type_node (probed_test c x.node w) t in
-      let j = loop_from c e u (step x.state) (λ d v few t al. node_typed d Read e v {step x.state} {t} is.4 (none_second (node_mark a) (node_mark e) m) one.1.0 late tt few al) early late tests.1 few (step x'.state) (steps_alike 0 0 (seen_at u) 1 i.state) in
+      let j = loop_from c e u (step x.state) (λ d v few t al. node_typed d Read e v is.4 (none_second (node_mark a) (node_mark e) m) one.1.0 late tt few al) early late tests.1 few (step x'.state) (steps_alike 0 0 (seen_at u) 1 i.state) in
       formed_typed v _ _ _ _ _ (ap₂ (two and) i.node j.node) (and_near v _ _ o _ _ _ _ i.sort j.sort j.state)
   form_typed c r p o (two or a e) w {s} {t} is m h clean able few al =
       let x = type_node a s in
@@ -293,9 +293,9 @@ mutual
       let tests = logical_tested x.sort y.sort (infix_there x.state.at o s.at (pos_in a) or x.sort y.sort y.state one.0 other.0 clean) in
       let u = walk_test c x.node w in
       let v = walk_loop_test c y.node u in
-      let i = test_from c a w s (λ d v few t al. node_typed d Read a v {s} {t} is.2 (none_first (node_mark a) (node_mark e) m) h early tt few al) (back (node_grows a s) early) early tests.0 (few_before (right_before c x.node y.node w) few) t al in
+      let i = test_from c a w s (λ d v few t al. node_typed d Read a v is.2 (none_first (node_mark a) (node_mark e) m) h early tt few al) (back (node_grows a s) early) early tests.0 (few_before (right_before c x.node y.node w) few) t al in
       let x' = type_node (probed_test c x.node w) t in
-      let j = loop_from c e u (step x.state) (λ d v few t al. node_typed d Read e v {step x.state} {t} is.4 (none_second (node_mark a) (node_mark e) m) one.1.0 late tt few al) early late tests.1 few (step x'.state) (steps_alike 0 0 (seen_at u) 1 i.state) in
+      let j = loop_from c e u (step x.state) (λ d v few t al. node_typed d Read e v is.4 (none_second (node_mark a) (node_mark e) m) one.1.0 late tt few al) early late tests.1 few (step x'.state) (steps_alike 0 0 (seen_at u) 1 i.state) in
       formed_typed v _ _ _ _ _ (ap₂ (two or) i.node j.node) (or_near v _ _ o _ _ _ _ i.sort j.sort j.state)
   form_typed c r p o (choose a e g) w {s} {t} is m h clean able few al =
       let x = type_node a s in
@@ -312,11 +312,11 @@ mutual
       let u = walk_test c x.node w in
       let v = walk_arm c y.node u in
       let few_there = few_before (arm_on c z.node v) few in
-      let i = test_from c a w s (λ d v few t al. node_typed d Read a v {s} {t} is.1 (none_first (node_mark a) (first (node_mark e) (node_mark g)) m) h early tt few al) (back (node_grows a s) early) early tested (few_before (arm_on c y.node u) few_there) t al in
+      let i = test_from c a w s (λ d v few t al. node_typed d Read a v is.1 (none_first (node_mark a) (first (node_mark e) (node_mark g)) m) h early tt few al) (back (node_grows a s) early) early tested (few_before (arm_on c y.node u) few_there) t al in
       let x' = type_node (probed_test c x.node w) t in
-      let j = arm_from c e u (step x.state) (λ d v few t al. node_typed d Read e v {step x.state} {t} is.2 (none_first (node_mark e) (node_mark g) rest) one.1.0 mid tt few al) early mid few_there (step x'.state) (steps_alike 0 0 (seen_at u) 1 i.state) in
+      let j = arm_from c e u (step x.state) (λ d v few t al. node_typed d Read e v is.2 (none_first (node_mark e) (node_mark g) rest) one.1.0 mid tt few al) early mid few_there (step x'.state) (steps_alike 0 0 (seen_at u) 1 i.state) in
       let y' = type_node (probed_arm c y.node u) (step x'.state) in
-      let l = arm_from c g v (step y.state) (λ d v few t al. node_typed d Read g v {step y.state} {t} is.4 (none_second (node_mark e) (node_mark g) rest) other.1.0 late tt few al) mid late few (step y'.state) (steps_alike 0 0 (seen_at v) 1 j.state) in
+      let l = arm_from c g v (step y.state) (λ d v few t al. node_typed d Read g v is.4 (none_second (node_mark e) (node_mark g) rest) other.1.0 late tt few al) mid late few (step y'.state) (steps_alike 0 0 (seen_at v) 1 j.state) in
       formed_typed (walk_arm c z.node v) _ _ _ _ _ (three choose i.node j.node l.node) (choice_typed (walk_arm c z.node v) _ _ o _ _ _ _ _ _ i.sort j.sort l.sort l.state)
   form_typed c r p o (probe u a) w is m h clean able few al = absurd (some_none p m)
 

@@ -30,7 +30,7 @@ nodes_typed b c r a w s t is m h clean able few al = node_typed c r a w is m h c
 
 -- what is typed without a complaint is typed as it stands wherever it is read
 read_typed : {b : Bool} (a : NodeShape) (s : State) → Shaped a → node_mark a ≡ None → Knows b s → IsClean (type_node a s).state → IsReadTyped a s
-read_typed a s is m h clean c w few t al = node_typed c Read a w {s} {t} is m h clean tt few al
+read_typed a s is m h clean c w few t al = node_typed c Read a w is m h clean tt few al
 
 pub tests_typed : TestsAreTypedNear
 tests_typed b c a w s t is m h clean able few al = test_from c a w s (read_typed a s is m h clean) (back (node_grows a s) clean) clean able few t al
@@ -49,7 +49,7 @@ nodes_given b c gs hs es w s t is m h clean few same al = arguments_typed c gs h
 pub maybes_typed : MaybesAreTypedAs
 maybes_typed b c l no_node w s t is m h clean few al = record { node = refl; state = al }
 maybes_typed b c l (one_node a) w s t is m h clean few al =
-    let i = node_typed c Read a w {s} {t} is.1 m h clean tt few al in
+    let i = node_typed c Read a w is.1 m h clean tt few al in
     record { node = ap one_node i.node; state = i.state }
 
 -- a test that isn't complained of where it stands is one
@@ -79,7 +79,7 @@ results_typed b c token last p k l no_node w s t is m h clean few al = record { 
 results_typed b c token last p k l (one_node a) w s t is m h clean few al =
     let x = type_node a s in
     let r = result_rule k x.sort in
-    let i = node_typed c Read a w {s} {t} is.1 m h (back (rule_grows r token p x.state) clean) tt few al in
+    let i = node_typed c Read a w is.1 m h (back (rule_grows r token p x.state) clean) tt few al in
     let v = walk_node c Read x.node w in
     let y = type_node (probed_node c Read x.node w) t in
     record {

@@ -45,9 +45,12 @@ same_uses : (b : Bool) (c : Around) (q : Pos) (d : Option Direct) (w : Walked) �
 same_uses false c q d w = refl
 same_uses true c q d w = omega (arith, uses_then w.items (a_def q c.function d))
 
+next_uses : (w u : Walked) → use_count u.items ≡ use_count w.items → next_use u ≡ next_use w
+next_uses w u e = omega (arith, e)
+
 in_use_by : (b : Bool) (w u : Walked) (a : NodeShape) → use_count u.items ≡ use_count w.items → in_use b u a ≡ in_use b w a
 in_use_by false w u a e = refl
-in_use_by true w u a e = ap (λ k. round_place (simple used (decimal (k + 1))) a) e
+in_use_by true w u a e = ap (λ k. round_place (simple used (decimal k)) a) (next_uses w u e)
 
 def_typed : (b : Bool) (c : Around) (q : Pos) (d : Option Direct) (w v : Walked) (x : TypedNode) (a : NodeShape) (s : State) → IsSite b x a → IsClean s → IsClean x.state → HasFewItems (with_def b c q d w)
     → IsTypedFrom (with_def b c q d w) v s x a → IsTypedFrom w v s x (in_def b w a)

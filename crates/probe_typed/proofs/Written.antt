@@ -1,5 +1,5 @@
 -- What is written is a place of a scalar, and a site of an expression that is typed without a complaint is one.
-use Rattle.std.proofs.Common.{◌≡◌, ℕ, ℤ, Bool, true, false, Option, Some, None, refl, sym, subst}
+use Rattle.std.proofs.Common.{◌≡◌, ℕ, List, Bool, true, false, Option, Some, None, refl, sym, subst}
 use Rattle.std.specs.Prelude.{if◌then◌else◌}
 use Rattle.c_base.specs.declared.place.Pos.{Pos}
 use Rattle.c_base.specs.declared.place.IntKind.TheVariants.{Int}
@@ -10,7 +10,7 @@ use Rattle.c_syntax.specs.declared.tree.UnaryOp.TheVariants as front
 use Rattle.c_syntax.specs.Shape.{TypeOf, int, pointer, array, structure, nothing, number, char, str, name, unary, before, size_of, plain, and, or, assign, comma, NodeShape, node, ExprShape, leaf, paren, call, prefix, size_of_type, cast, suffix, two, choose, probe, index, field, behind, simple, select}
 use Rattle.c_type_rules.specs.Kinds.{is_scalar, decay}
 use Rattle.c_type_rules.specs.Layouts.{Measure}
-use Rattle.c_type_rules.specs.Verdicts.{Verdict, fine, unknown, wrong, on, truth_of, values_type, branches_type, stored_type, fits_type, compound_type, step_type, logical_type, conditional_type}
+use Rattle.c_type_rules.specs.Verdicts.{Verdict, fine, unknown, wrong, on, truth_of, values_type, branches_type, stored_type, fits_type, compound_type, step_type, truth_type, logical_type, conditional_type}
 use Rattle.c_constants.specs.declared.constants.Constant.{Constant}
 use Rattle.c_constants.specs.declared.constants.Constant.TheVariants.{No, Faulty, Known, Variable, Part, Address, Literal}
 use Rattle.c_constants.specs.declared.numbers.Number.{Number}
