@@ -1,16 +1,16 @@
 -- An expression with its probes is typed as it stands: it has again its own notes, and the sort of the expression without probes.
-use Rattle.std.proofs.Common.{◌≡◌, ℕ, List, [], ◌∷◌, ◌++◌, length, Bool, true, false, Option, Some, None, ◌∙◌, refl, sym, ap, ap₂, subst}
+use Rattle.std.proofs.Common.{◌≡◌, ℕ, List, [], ◌∷◌, ◌++◌, length, Bool, true, false, Option, None, ◌∙◌, refl, sym, ap, ap₂, subst}
 use Rattle.std.specs.Prelude.{if◌then◌else◌}
 use Rattle.c_base.specs.declared.place.Pos.{Pos}
-use Rattle.c_syntax.specs.Shape.{TypeOf, number, char, str, name, unary, before, size_of, Infix, plain, and, or, assign, comma, NodeShape, node, ExprShape, leaf, paren, call, prefix, size_of_type, cast, suffix, two, choose, probe, index, field, behind, simple, select, NodeShapes, no_nodes, more_nodes, TypeShape}
+use Rattle.c_syntax.specs.Shape.{number, char, str, name, unary, before, size_of, Infix, plain, and, or, assign, comma, NodeShape, node, ExprShape, leaf, paren, call, prefix, size_of_type, cast, suffix, two, choose, probe, index, field, behind, NodeShapes, no_nodes, more_nodes, TypeShape}
 use Rattle.c_syntax.specs.Shaped.{Shaped, ShapedExpr, ShapedNodes}
 use Rattle.c_type_rules.specs.Verdicts.{cast_type}
 use Rattle.c_constants.specs.Numbers.{number_of}
 use Rattle.c_scopes.specs.Scoping.{find}
 use Rattle.c_tree.specs.State.{State, step, steps, is_clean}
 use Rattle.c_tree.specs.Rulings.{by, rule, kind_at, of_kind}
-use Rattle.c_tree.specs.Sorts.{Sort, plainly, pos_in, null, note_of, cleared, noted, Formed, formed, TypedNode, changeable}
-use Rattle.c_tree.specs.Operators.{has_value, called, Given, given_at, typed_call, place_rule, unary_rule, step_rule, typed_unary, typed_step, typed_size, typed_type_size, heard, hushed, typed_infix, element_rule, holder, field_rule, choice_rule}
+use Rattle.c_tree.specs.Sorts.{Sort, plainly, pos_in, null, note_of, cleared, noted, Formed, TypedNode, changeable}
+use Rattle.c_tree.specs.Operators.{has_value, called, Given, given_at, typed_call, place_rule, unary_rule, step_rule, typed_unary, typed_step, typed_infix, element_rule, holder, field_rule, choice_rule}
 use Rattle.c_tree.specs.Typing.{opening, type_node, type_form, type_arguments, type_type}
 use Rattle.c_tree.proofs.Again.{node_again, pos_again, type_again}
 use Rattle.c_walk.specs.declared.around.Around.{Around}
@@ -19,11 +19,11 @@ use Rattle.c_walk.specs.declared.around.Taken.TheVariants.{Read, Changed}
 use Rattle.c_walk.specs.Places.{is_place, has_scalar, direct_form}
 use Rattle.c_walk.specs.Walked.{Walked, is_read, is_written, operand_taken, left_taken, with_site}
 use Rattle.c_walk.specs.Walking.{walk_node, walk_form, walk_test, walk_arm, walk_nodes, walk_loop_test}
-use Rattle.c_meaning.proofs.Walks.{node_on, test_node_on, arm_on}
+use Rattle.c_meaning.proofs.Walks.{node_on, arm_on}
 use Rattle.c_sites_probes.specs.Marked.{first, node_mark, form_mark, nodes_mark, type_mark}
 use Rattle.probe_rules.specs.Fitting.{HasFewItems}
 use Rattle.probe_rules.specs.Marks.{in_use, in_def}
-use Rattle.probe_rules.specs.ProbedExpressions.{in_sites, probed_node, probed_form, probed_test, probed_arm, probed_nodes, probed_loop_test}
+use Rattle.probe_rules.specs.ProbedExpressions.{in_sites, probed_node, probed_form, probed_test, probed_arm, probed_nodes}
 use Rattle.probe_rules.proofs.ReadyUnits.{some_none, none_first, none_second}
 use Rattle.probe_rules.proofs.Grows.{rule_grows, typed_call_grows, infix_grows, node_grows, form_grows, arguments_grows}
 use Rattle.probe_rules.proofs.Moved.{AlikeOutcome, AlikeNode, AlikeType, AlikeGiven, steps_alike, demand_alike, quiet_alike, name_alike, called_alike, given_then, typed_call_alike, string_alike, unary_alike, step_alike, size_alike, type_size_alike, cast_alike, infix_alike, index_alike, field_alike, node_alike, type_alike}
@@ -37,8 +37,8 @@ use Rattle.probe_laws.proofs.KnownNodes.{node_knows, type_knows}
 use Rattle.probe_typed.specs.Typed.{Follows, IsScalarPlace, MayBeTaken, IsTypedAs, AreTypedAs}
 use Rattle.probe_typed.proofs.Follows.{clean_too, IsFormTypedAs, formed_typed, note_at, noted_typed}
 use Rattle.probe_typed.proofs.Near.{and_near, or_near, choice_typed, three}
-use Rattle.probe_typed.proofs.Sites.{AreSites, IsTypedFrom, sited_typed}
-use Rattle.probe_typed.proofs.Tests.{IsReadTyped, test_from, arm_from, loop_from}
+use Rattle.probe_typed.proofs.Sites.{AreSites, sited_typed}
+use Rattle.probe_typed.proofs.Tests.{test_from, arm_from, loop_from}
 use Rattle.probe_typed.proofs.Written.{operand_taken_so, left_taken_so, step_taken_so, logical_tested, chosen_tested, HasScalarNote, place_plain, form_placed, scalar_kind, scalar_note, written_place}
 
 -- ---- where a node stands
@@ -244,7 +244,7 @@ mutual
       let v = walk_node c Read y.node u in
       let i = node_typed c Read a w is.2 (none_first (node_mark a) (node_mark e) m) h early tt (few_before (node_on c Read y.node u) few) al in
       let j = node_typed c Read e u is.4 (none_second (node_mark a) (node_mark e) m) one.1.0 late tt few (steps_alike 0 0 (seen_at u) 1 i.state) in
-      formed_typed v _ _ _ _ _ (ap₂ (two (plain k)) i.node j.node) (infix_typed v _ _ o _ _ _ _ (plain k) _ _ _ _ (pos_typed c Read a s w) i.sort j.sort j.state)
+      formed_typed v _ _ _ _ _ (ap₂ (two (plain k)) i.node j.node) (infix_typed v x.state.at (type_node (probed_node c Read x.node w) t).state.at o s.at t.at (pos_in a) _ (plain k) _ _ _ _ (pos_typed c Read a s w) i.sort j.sort j.state)
   form_typed c r p o (two comma a e) w {s} {t} is m h clean able few al =
       let x = type_node a s in
       let y = type_node e (step x.state) in
@@ -255,7 +255,7 @@ mutual
       let v = walk_node c Read y.node u in
       let i = node_typed c Read a w is.2 (none_first (node_mark a) (node_mark e) m) h early tt (few_before (node_on c Read y.node u) few) al in
       let j = node_typed c Read e u is.4 (none_second (node_mark a) (node_mark e) m) one.1.0 late tt few (steps_alike 0 0 (seen_at u) 1 i.state) in
-      formed_typed v _ _ _ _ _ (ap₂ (two comma) i.node j.node) (infix_typed v _ _ o _ _ _ _ comma _ _ _ _ (pos_typed c Read a s w) i.sort j.sort j.state)
+      formed_typed v _ _ _ _ _ (ap₂ (two comma) i.node j.node) (infix_typed v x.state.at (type_node (probed_node c Read x.node w) t).state.at o s.at t.at (pos_in a) _ comma _ _ _ _ (pos_typed c Read a s w) i.sort j.sort j.state)
   form_typed c r p o (two (assign k) a e) w {s} {t} is m h clean able few al =
       let x = type_node a s in
       let y = type_node e (step x.state) in
@@ -268,7 +268,7 @@ mutual
       let v = walk_node c Read y.node u in
       let i = node_typed c (left_taken k) a w is.2 (none_first (node_mark a) (node_mark e) m) h early so (few_before (node_on c Read y.node u) few) al in
       let j = node_typed c Read e u is.4 (none_second (node_mark a) (node_mark e) m) one.1.0 late tt few (steps_alike 0 0 (seen_at u) 1 i.state) in
-      formed_typed v _ _ _ _ _ (ap₂ (two (assign k)) i.node j.node) (infix_typed v _ _ o _ _ _ _ (assign k) _ _ _ _ (pos_typed c (left_taken k) a s w) i.sort j.sort j.state)
+      formed_typed v _ _ _ _ _ (ap₂ (two (assign k)) i.node j.node) (infix_typed v x.state.at (type_node (probed_node c (left_taken k) x.node w) t).state.at o s.at t.at (pos_in a) _ (assign k) _ _ _ _ (pos_typed c (left_taken k) a s w) i.sort j.sort j.state)
   form_typed c r p o (two and a e) w {s} {t} is m h clean able few al =
       let x = type_node a s in
       let y = type_node e (step x.state) in

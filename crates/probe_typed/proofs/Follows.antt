@@ -1,5 +1,5 @@
 -- States that follow one another, and the node of a form that is typed as it stands.
-use Rattle.std.proofs.Common.{◌≡◌, ℕ, ◌+◌, length, Bool, ◌∙◌, refl, sym, ap, ap₂, arith}
+use Rattle.std.proofs.Common.{◌≡◌, ℕ, ◌+◌, length, ◌∙◌, sym, ap, ap₂, arith}
 use Rattle.std.specs.Prelude.{min, ◌-◌, ◌^◌}
 use Rattle.c_base.specs.declared.place.Pos.{Pos}
 use Rattle.c_syntax.specs.Shape.{NoteShape, NodeShape, node, ExprShape}

@@ -21,7 +21,7 @@ use Rattle.c_walk.specs.Walked.{Walked}
 use Rattle.probe_rules.proofs.Moved.{AlikeOutcome, rule_alike, ruled_alike}
 use Rattle.probe_rules.proofs.Claims.{seen_at}
 use Rattle.probe_rules.proofs.SameConstants.{AreAlike}
-use Rattle.probe_typed.specs.Typed.{Follows, IsNear, IsTypedNear}
+use Rattle.probe_typed.specs.Typed.{Follows, IsNear}
 
 pub three : {A B C D : Type 0} (k : A → B → C → D) {a b : A} {c d : B} {e f : C} → a ≡ b → c ≡ d → e ≡ f → k a c e ≡ k b d f
 three k {a} {b} {c} {d} {e} {f} p q r = ap (λ x. k x c e) p ∙ ap₂ (k b) q r

@@ -1,6 +1,5 @@
 -- Where statements have expressions: at test positions, as blocks, as arguments, and where one may be left out.
 use Rattle.std.proofs.Common.{◌≡◌, ℕ, Bool, None, refl, sym, ap, subst}
-use Rattle.c_base.specs.declared.place.Pos.{Pos}
 use Rattle.c_syntax.specs.Shape.{NodeShape, no_node, one_node}
 use Rattle.c_syntax.specs.Shaped.{Shaped}
 use Rattle.c_type_rules.specs.Verdicts.{truth_type}

@@ -4,14 +4,14 @@ use Rattle.std.specs.Prelude.{option_map}
 use Rattle.c_base.specs.declared.place.Pos.{Pos}
 use Rattle.c_syntax.specs.declared.text.Text.{Text}
 use Rattle.c_syntax.specs.Shape.{TypeOf, NoteShape, bare, typed, known, Probing, block, test, used, def, NodeShape, node, probe, simple}
-use Rattle.c_type_rules.specs.Kinds.{is_scalar, decay}
+use Rattle.c_type_rules.specs.Kinds.{decay}
 use Rattle.c_type_rules.specs.Verdicts.{Verdict, fine, unknown, wrong, fine_if, truth_type, scalar_type}
 use Rattle.c_constants.specs.declared.constants.Constant.{Constant}
 use Rattle.c_constants.specs.declared.constants.Constant.TheVariants.{No, Faulty, Known, Variable, Part, Address, Literal}
 use Rattle.c_constants.specs.Constants as constants
 use Rattle.c_tree.specs.State.{State, step, steps}
 use Rattle.c_tree.specs.Rulings.{Ruled, by, then_rule, kind_at, rule, of_kind, allowed_if}
-use Rattle.c_tree.specs.Sorts.{Sort, a_value, a_place, plainly, Outcome, comes_to, TypedNode, formed, noted, note_of, cleared, pos_in}
+use Rattle.c_tree.specs.Sorts.{Sort, a_value, a_place, plainly, comes_to, TypedNode, formed, noted, note_of, cleared, pos_in}
 use Rattle.c_tree.specs.Operators.{claim, as_decayed, typed_probe}
 use Rattle.c_tree.specs.Typing.{type_node}
 use Rattle.c_walk.specs.Places.{has_scalar}

@@ -1,5 +1,5 @@
 -- A place with the probes of its sites is typed as the place is: a definition round a use, each behind the claim of its number.
-use Rattle.std.proofs.Common.{◌≡◌, ℕ, ◌+◌, ◌++◌, [], ◌∷◌, Option, Some, None, Bool, true, false, ◌∙◌, refl, sym, ap, subst, arith}
+use Rattle.std.proofs.Common.{◌≡◌, Option, Bool, true, false, ◌∙◌, refl, ap, subst, arith}
 use Rattle.std.specs.Prelude.{if◌then◌else◌}
 use Rattle.std.specs.Fmt.{decimal}
 use Rattle.c_base.specs.declared.place.Pos.{Pos}

@@ -1,5 +1,5 @@
 -- An expression at a test position, as the test of a loop, and as a block, is typed as it stands where it is so wherever it is read.
-use Rattle.std.proofs.Common.{◌≡◌, Bool, true, false, refl, sym, subst}
+use Rattle.std.proofs.Common.{Bool, true, false, sym, subst}
 use Rattle.std.specs.Prelude.{if◌then◌else◌}
 use Rattle.std.specs.Fmt.{decimal}
 use Rattle.c_base.specs.declared.place.Pos.{Pos}

@@ -1,29 +1,26 @@
 -- What is written is a place of a scalar, and a site of an expression that is typed without a complaint is one.
-use Rattle.std.proofs.Common.{◌≡◌, ℕ, List, Bool, true, false, Option, Some, None, refl, sym, subst}
-use Rattle.std.specs.Prelude.{if◌then◌else◌}
+use Rattle.std.proofs.Common.{◌≡◌, ℕ, List, Bool, true, false, Option, Some, None, refl}
 use Rattle.c_base.specs.declared.place.Pos.{Pos}
 use Rattle.c_base.specs.declared.place.IntKind.TheVariants.{Int}
 use Rattle.c_syntax.specs.declared.tree.BinaryOp.{BinaryOp}
 use Rattle.c_syntax.specs.declared.tree.BinaryOp.TheVariants as op
 use Rattle.c_syntax.specs.declared.tree.UnaryOp.{UnaryOp}
 use Rattle.c_syntax.specs.declared.tree.UnaryOp.TheVariants as front
-use Rattle.c_syntax.specs.Shape.{TypeOf, int, pointer, array, structure, nothing, number, char, str, name, unary, before, size_of, plain, and, or, assign, comma, NodeShape, node, ExprShape, leaf, paren, call, prefix, size_of_type, cast, suffix, two, choose, probe, index, field, behind, simple, select}
+use Rattle.c_syntax.specs.Shape.{TypeOf, int, pointer, array, structure, nothing, number, char, str, name, unary, before, size_of, assign, NodeShape, ExprShape, leaf, paren, call, prefix, size_of_type, cast, suffix, two, choose, probe, index, field, behind, simple, select}
 use Rattle.c_type_rules.specs.Kinds.{is_scalar, decay}
 use Rattle.c_type_rules.specs.Layouts.{Measure}
 use Rattle.c_type_rules.specs.Verdicts.{Verdict, fine, unknown, wrong, on, truth_of, values_type, branches_type, stored_type, fits_type, compound_type, step_type, truth_type, logical_type, conditional_type}
 use Rattle.c_constants.specs.declared.constants.Constant.{Constant}
 use Rattle.c_constants.specs.declared.constants.Constant.TheVariants.{No, Faulty, Known, Variable, Part, Address, Literal}
-use Rattle.c_constants.specs.declared.numbers.Number.{Number}
-use Rattle.c_constants.specs.Numbers.{number_of}
 use Rattle.c_scopes.specs.Scoping.{find}
-use Rattle.c_tables.specs.Tables.{FunctionShape, VariableShape}
+use Rattle.c_tables.specs.Tables.{VariableShape}
 use Rattle.c_tables.specs.Rows.{row}
 use Rattle.c_tree.specs.declared.meaning.Entity.{Entity}
 use Rattle.c_tree.specs.declared.meaning.Entity.TheVariants as entity
 use Rattle.c_tree.specs.State.{State}
 use Rattle.c_tree.specs.Rulings.{by, then_rule, rule, kind_at, of_kind, allowed_if, moved}
 use Rattle.c_tree.specs.Sorts.{Sort, Typing, note_of, changeable}
-use Rattle.c_tree.specs.Operators.{number_sort, named_variable, named_parameter, named_entity, Given, call_of, typed_call, unary_sort, step_rule, typed_infix, choice_rule}
+use Rattle.c_tree.specs.Operators.{named_variable, named_parameter, named_entity, unary_sort, step_rule, typed_infix, choice_rule}
 use Rattle.c_tree.specs.Typing.{type_form}
 use Rattle.c_walk.specs.declared.around.Taken.{Taken}
 use Rattle.c_walk.specs.declared.around.Taken.TheVariants.{Read, Written, Changed, Addressed}
@@ -140,10 +137,6 @@ pub chosen_tested : (a b c : Sort) → IsThere (kind_at (choice_rule a b c)) →
 chosen_tested a b c h = conditional_kinds a.kind b.kind c.kind _ _ h
 
 -- ---- sites
-
-number_value : (n : Option Number) → (number_sort n).place ≡ false
-number_value None = refl
-number_value (Some n) = refl
 
 abbrev IsUnvalued : Typing → Type 0
 IsUnvalued t = t.sort.place ≡ true → t.valued ≡ false
