@@ -1,0 +1,5 @@
+mod Nodes
+mod Decls
+mod Functions
+mod Statements
+pub mod Units
