@@ -89,4 +89,4 @@ mutual
   form_read p o (probe (select x cs) a) s none c = absurd (some_none p none)
 
 pub values_are_read : ValuesAreRead
-values_are_read a none s c = let r = node_read a s none (ap length c) in (r.alike.kinds, r.alike.values)
+values_are_read a s none c = let r = node_read a s none (ap length c) in (r.alike.kinds, r.alike.values)

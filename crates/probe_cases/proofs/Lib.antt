@@ -4,3 +4,4 @@ mod Operators
 pub mod Known
 pub mod Different
 pub mod Select
+pub mod Choice

@@ -167,14 +167,14 @@ cast_noted (Some (array t n)) (Some u) b d token o s g p c = alike_same refl
 cast_noted (Some (structure n)) (Some u) b d token o s g p c = alike_same refl
 
 cast_grounded : (k l : Option TypeOf) (d : Constant) (token : ℕ) (o : Pos) (s : State) → IsGrounded l d → IsClean (rule (by wrong_type (cast_type k l)) token o s) → IsGrounded (kind_at (by wrong_type (cast_type k l))) (cast_constant k d)
-cast_grounded None l d token o s g c = grounded_none _ No refl
-cast_grounded (Some t) None d token o s g c = grounded_none _ (constants.cast t d) (cast_none t d g)
-cast_grounded (Some t) (Some u) d token o s g c = grounded_there _ (constants.cast t d) (cast_there (Some t) (Some u) token o s tt tt c)
+cast_grounded None l d token o s g c = grounded_none (kind_at (by wrong_type (cast_type None l))) No refl
+cast_grounded (Some t) None d token o s g c = grounded_none (kind_at (by wrong_type (cast_type (Some t) None))) (constants.cast t d) (cast_none t d g)
+cast_grounded (Some t) (Some u) d token o s g c = grounded_there (kind_at (by wrong_type (cast_type (Some t) (Some u)))) (constants.cast t d) (cast_there (Some t) (Some u) token o s tt tt c)
 
 pub cast_read : (y : TypeShape) (a : NodeShape) (k : Option TypeOf) (x : Sort) (token : ℕ) (o : Pos) (s : State) → IsReadNode a x → IsClean (rule (by wrong_type (cast_type k x.kind)) token o s) → IsRead (cast y a) (typed_cast token o k x s).typing
 cast_read y a k x token o s is c = record {
   grounded = cast_grounded k x.kind x.constant token o s is.grounded c;
-  alike = alike_noted _ (cast_constant k x.constant) None (cast_noted k x.kind (tests.constant a) x.constant token o s is.grounded is.alike c);
+  alike = alike_noted (kind_at (by wrong_type (cast_type k x.kind))) (cast_constant k x.constant) None (cast_noted k x.kind (tests.constant a) x.constant token o s is.grounded is.alike c);
 }
 
 -- ---- operators of two and three operands
@@ -212,7 +212,7 @@ choice_read a b d x y z token o s is are be c =
       grounded = by_kind x.kind
           (λ e. grounded_none k v (test_none x.constant y.constant z.constant (none_at x.kind x.constant e is.grounded)))
           (λ h. by_kinds y.kind z.kind
-              (λ e. grounded_none k v (branches_none x.constant y.constant z.constant (none_of y z are.grounded be.grounded e)))
-              (λ i j. grounded_there k v (choice_there x y z token o s h i j c)));
+          (λ e. grounded_none k v (branches_none x.constant y.constant z.constant (none_of y z are.grounded be.grounded e)))
+          (λ i j. grounded_there k v (choice_there x y z token o s h i j c)));
       alike = alike_noted k v None (choice_alike is.alike are.alike be.alike);
     }

@@ -48,7 +48,7 @@ ruled_so j clean vs x c e d =
 
 -- ---- the note
 
-note_in : NodeShape → NoteShape
+abbrev note_in : NodeShape → NoteShape
 note_in (node p o n f) = n
 
 valued_note : (j : IntKind) (c : Constant) (m : Option ℕ) (v : Bool) → value_note (note_of (Some (int j)) c m v) ≡ typed (int j) None
@@ -70,17 +70,17 @@ note_so j p o n f s is =
 
 -- ---- the probe
 
-clean_then : (n m k : ℕ) → nat_eq n m ≡ true → nat_eq m k ≡ true → nat_eq n k ≡ true
+pub clean_then : (n m k : ℕ) → nat_eq n m ≡ true → nat_eq m k ≡ true → nat_eq n k ≡ true
 clean_then n m k e d = grind (arith, nat_tests)
 
-further_clean : (s t u : State) → IsFurther s t → is_clean t u ≡ true → is_clean s u ≡ true
+pub further_clean : (s t u : State) → IsFurther s t → is_clean t u ≡ true → is_clean s u ≡ true
 further_clean s t u further e = sym (ap (λ (x : State). is_clean x u) further) ∙ e
 
 -- what is known of the probe, by what is known behind its constants
-select_so : (j : IntKind) (zs : List ℤ) → AreInRange (promote j) zs → AreDifferent zs → (x : Text) (p o : Pos) (n : NoteShape) (f : ExprShape) (s : State)
+pub select_so : (j : IntKind) (zs : List ℤ) → AreInRange (promote j) zs → AreDifferent zs → (x : Text) (p o : Pos) (n : NoteShape) (f : ExprShape) (s : State)
     → (let c = steps 3 (claim test x s.at p s) in is_clean s c ≡ true → ((t : State) → IsFurther c t → Stands j (node p o n f) t)
     → (let a = node p o (value_note n) (probe (select x (constants_at p o zs)) (node p o n f)) in
-        (t : State) × IsFurther c t × (type_node a s ≡ record { node = a; sort = a_value (Some (int j)) No; state = step (type_node (node p o n f) t).state })))
+    (t : State) × IsFurther c t × (type_node a s ≡ record { node = a; sort = a_value (Some (int j)) No; state = step (type_node (node p o n f) t).state })))
 select_so j zs range apart x p o n f s clean stands =
     let b = node p o n f in
     let cs = constants_at p o zs in
@@ -94,12 +94,14 @@ select_so j zs range apart x p o n f s clean stands =
     let behind = further_clean c t v.state further is.clean in
     let whole : Ruled → NodeShapes → NodeShape → Formed = λ r ds a. formed (probe (select x ds) a) (comes_to (plainly (a_value (kind_at r) No)) (step (rule r s.at p v.state))) in
     let r = select_rule (is_clean c v.state) l.values v.sort in
-    let ruled : r ≡ allowed (int j) = ruled_so j (is_clean c v.state) l.values v.sort behind is.kind (values_differ (promote j) l.values zs list.values apart) in
-    (t, further,
-    ap (λ q. noted p o s (whole q l.nodes v.node)) ruled
-    ∙ (ap₂ (λ ds a. noted p o s (whole (allowed (int j)) ds a)) list.nodes is.node
-    ∙ (ap (λ d. noted_if d p o (whole (allowed (int j)) cs b)) (clean_then (length s.complaints) (length c.complaints) (length v.state.complaints) clean behind)
-    ∙ ap (λ m. record { node = node p o m (probe (select x cs) b); sort = a_value (Some (int j)) No; state = step v.state }) (sym (note_so j p o n f t is)))))
+    let ruled : r ≡ allowed (int j) = ruled_so j (is_clean c v.state) l.values v.sort behind is.kind (values_differ (promote j) l.values zs list.values apart) in (
+      t,
+      further,
+      ap (λ q. noted p o s (whole q l.nodes v.node)) ruled
+          ∙ (ap₂ (λ ds a. noted p o s (whole (allowed (int j)) ds a)) list.nodes is.node
+          ∙ (ap (λ d. noted_if d p o (whole (allowed (int j)) cs b)) (clean_then (length s.complaints) (length c.complaints) (length v.state.complaints) clean behind)
+          ∙ ap (λ m. record { node = node p o m (probe (select x cs) b); sort = a_value (Some (int j)) No; state = step v.state }) (sym (note_so j p o n f t is)))),
+    )
 
 pub selects_are_typed : SelectsAreTyped
 selects_are_typed j zs range apart w (node p o n f) s clean stands =
@@ -124,7 +126,7 @@ around_sure : (n : ℕ) (outer : List (Scope Entity)) → AreKnownAround n outer
 around_sure n [] h = tt
 around_sure n (names ∷ rest) h = (all_sure n names h.0, around_sure n rest h.1)
 
-knows : (s : State) → KnowsNames s → Knows false s
+pub knows : (s : State) → KnowsNames s → Knows false s
 knows s h = let n = length s.tables.functions in record { sure = all_sure n s.names.top h.0; around = around_sure n s.names.outer h.1; inside = tt }
 
 -- a switch of which nothing is complained chooses by an integer
@@ -146,7 +148,7 @@ choosing_noted p o f j Part m true = refl
 choosing_noted p o f j Address m true = refl
 choosing_noted p o f j Literal m true = refl
 
-choosing_so : (e : NodeShape) (s : State) (j : IntKind) → (type_node e s).sort.kind ≡ Some (int j) → choosing (type_node e s).node ≡ Some (promote j)
+pub choosing_so : (e : NodeShape) (s : State) (j : IntKind) → (type_node e s).sort.kind ≡ Some (int j) → choosing (type_node e s).node ≡ Some (promote j)
 choosing_so (node p o n f) s j e =
     let t = type_form p o f s in
     ap (λ k. choosing (node p o (note_of k t.typing.sort.constant t.typing.names t.typing.valued) t.form)) e ∙ choosing_noted p o t.form j t.typing.sort.constant t.typing.names t.typing.valued

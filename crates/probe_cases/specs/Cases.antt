@@ -18,11 +18,15 @@ use Rattle.c_tree.specs.Operators.{wrapped, claim}
 use Rattle.c_tree.specs.Parts.{TypedCases}
 use Rattle.c_tree.specs.Typing.{type_node, type_cases}
 use Rattle.c_tree.specs.Stating.{Surroundings, type_body}
+use Rattle.c_walk.specs.declared.around.Around.{Around}
+use Rattle.c_walk.specs.declared.around.Taken.TheVariants.{Read}
+use Rattle.c_walk.specs.Items.{cases}
 use Rattle.c_walk.specs.Tests as tests
 use Rattle.c_walk.specs.Tests.{choosing, case_values}
-use Rattle.c_walk.specs.Walked.{Walked, next_decision, pos_of}
+use Rattle.c_walk.specs.Walked.{Walked, next_decision, with_decision, pos_of, inside}
 use Rattle.c_sites_probes.specs.Marked.{node_mark, body_mark}
 use Rattle.probe_rules.specs.Marks.{constant_at, constants_at, in_select}
+use Rattle.probe_rules.specs.ProbedExpressions.{probed_node, probed_choice}
 
 -- ---- what is typed of a constant
 
@@ -123,3 +127,14 @@ SelectsAreTyped = (j : IntKind) (zs : List ℤ) → AreInRange (promote j) zs �
     is_clean s (begun w (pos_of b) s) ≡ true → ((t : State) → IsFurther (begun w (pos_of b) s) t → Stands j b t) →
     let y = type_node (in_select zs w b) s in
     (y.node ≡ in_select zs w b) × (y.sort ≡ a_value (Some (int j)) No) × ((t : State) × IsFurther (begun w (pos_of b) s) t × (y.state ≡ step (type_node b t).state))
+
+-- What a switch chooses by stands with its probes, the select probe among them, where it stands without that one behind its constants.
+abbrev pub KeepsChoice : FormShape → Type 0
+KeepsChoice (switch e items) = (j : IntKind) → choosing e ≡ Some (promote j) → (d : Around) (w : Walked) (s : State) →
+    let b = probed_node (inside d w) Read e (with_decision (pos_of e) (cases (case_values (choosing e) items)) w) in
+    is_clean s (begun w (pos_of b) s) ≡ true → ((t : State) → IsFurther (begun w (pos_of b) s) t → Stands j b t) → Stands j (probed_choice d e items w) s
+KeepsChoice f = Unit {0}
+
+abbrev pub ChoicesAreTyped : Type 0
+ChoicesAreTyped = (c : Surroundings) (p : Pos) (e : NodeShape) (items : ItemShapes) (s : State) → ShapedForm (switch e items) → KnowsNames s → let t = type_body c p (switch e items) s in
+    body_mark t.form ≡ None → t.state.complaints ≡ [] → KeepsChoice t.form

@@ -1,6 +1,6 @@
 //! The laws, as contracts.
 
-ghost use Rattle.probe_cases.specs.Cases.{ConstantsAreTyped, ListsAreTyped, ValuesAreRead, CasesDiffer, SelectsAreTyped};
+ghost use Rattle.probe_cases.specs.Cases.{ConstantsAreTyped, ListsAreTyped, ValuesAreRead, CasesDiffer, SelectsAreTyped, ChoicesAreTyped};
 
 /// What a select probe writes for an integer is typed as it stands, as a constant with that value.
 pub fn constants_are_typed()
@@ -25,4 +25,9 @@ pub fn cases_differ()
 /// A select probe is typed as it stands, where its expression is.
 pub fn selects_are_typed()
     ensures { SelectsAreTyped }
+{}
+
+/// So is what a switch chooses by, with its select probe.
+pub fn choices_are_typed()
+    ensures { ChoicesAreTyped }
 {}
