@@ -100,7 +100,7 @@ mark_goes : {b : Bool} (fit : Bool) (m : Option ProbeMark) (s : State) → Knows
 mark_goes fit None s h = stays s h
 mark_goes fit (Some m) s h = let first = claim_goes def m.number s.at m.pos s h in first ▹ demand_goes fit 37 s.at m.pos (claim def m.number s.at m.pos s) first.0
 
-name_goes : {b : Bool} (fit : Bool) (x : Option Named) (s : State) → Knows b s → Goes b s (claim_name fit x s)
+pub name_goes : {b : Bool} (fit : Bool) (x : Option Named) (s : State) → Knows b s → Goes b s (claim_name fit x s)
 name_goes fit None s h = stays s h
 name_goes fit (Some x) s h = mark_goes fit x.probe s h
 
@@ -108,7 +108,7 @@ pub with_variable_goes : {b : Bool} (x : Text) (k : Option TypeOf) (s : State) �
 with_variable_goes x None s is h = absurd is
 with_variable_goes {b} x (Some t) s is h = (declared_holds b (length s.tables.functions) x _ s.names tt h, omega arith)
 
-variable_at_goes : {b : Bool} (token : ℕ) (p : Pos) (x : Text) (k : Option TypeOf) (e : Option Entity) (s : State) → IsThere k → Knows b s → Goes b s (variable_at token p x k e s)
+pub variable_at_goes : {b : Bool} (token : ℕ) (p : Pos) (x : Text) (k : Option TypeOf) (e : Option Entity) (s : State) → IsThere k → Knows b s → Goes b s (variable_at token p x k e s)
 variable_at_goes token p x k None s is h = with_variable_goes x k s is h
 variable_at_goes token p x k (Some e) s is h = stays s h
 
@@ -156,7 +156,7 @@ init_clear : (i : InitShape) → IsClear true (length_in i)
 init_clear (one (node p o n f)) = form_clear f
 init_clear (listed p items last) = tt
 
-with_clear : (i : MaybeInit) (ls : List Length) → AreClear true ls → AreClear true (lengths_with i ls)
+pub with_clear : (i : MaybeInit) (ls : List Length) → AreClear true ls → AreClear true (lengths_with i ls)
 with_clear no_init ls h = h
 with_clear (one_init i) [] h = h
 with_clear (one_init i) (counted n ∷ ls) h = h
@@ -168,7 +168,7 @@ room_settled rooms (allowed t) h = whole_settled rooms t
 room_settled rooms unsettled h = h
 room_settled rooms (refused n) h = h
 
-variable_settled : (rooms : List Measure) (ls : List Length) (k : Option TypeOf) → AreClear true ls → IsThere k → Settled (variable_rule rooms ls k)
+pub variable_settled : (rooms : List Measure) (ls : List Length) (k : Option TypeOf) → AreClear true ls → IsThere k → Settled (variable_rule rooms ls k)
 variable_settled rooms ls k h is = room_settled rooms (of_kind k (with_lengths ls)) (of_kind_settled k (with_lengths ls) is (λ t. with_settled ls t h))
 
 scalar_settled : (r : Ruled) → Settled r → Settled (scalar_rule r)
