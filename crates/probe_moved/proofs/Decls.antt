@@ -91,15 +91,14 @@ module _ (n m : ℕ) (seen : Seen) where
         let j = inits_alike (slots k s) (slots k t) items (slots_same n m seen k al) none v in
         record { init = ap (λ z. listed p z last) j.inits; state = steps_alike n m seen (list_end last) j.state }
 
-    same_inits : (l : Slots) (items : InitShapes) → inits_mark items ≡ None → {s t : State} → Alike n m seen s t → AlikeInits (type_inits l items s) (type_inits l items t)
-    same_inits l no_inits none al = record { inits = refl; state = al }
-    same_inits l (more_inits i rest) none {s} {t} al =
-        let j = same_init true (slot l) i (none_first (init_mark i) (inits_mark rest) none) (rule_alike n m seen (slot_rule l) s.at t.at (init_pos i) (init_pos i) al) in
-        let k = same_inits (further l) rest (none_second (init_mark i) (inits_mark rest) none) (steps_alike n m seen 1 j.state) in
-        record { inits = ap₂ more_inits j.init k.inits; state = k.state }
-
     pub inits_alike : (l l' : Slots) (items : InitShapes) → l' ≡ l → inits_mark items ≡ None → {s t : State} → Alike n m seen s t → AlikeInits (type_inits l items s) (type_inits l' items t)
-    inits_alike l l' items e none {s} {t} al = subst (λ z. AlikeInits (type_inits l items s) (type_inits z items t)) (sym e) (same_inits l items none al)
+    inits_alike l l' no_inits e none al = record { inits = refl; state = al }
+    inits_alike l l' (more_inits i rest) e none {s} {t} al =
+        let x = type_init true (slot l) i (rule (slot_rule l) s.at (init_pos i) s) in
+        let j = subst (λ z. AlikeInit x (type_init true (slot z) i (rule (slot_rule z) t.at (init_pos i) t))) (sym e)
+            (same_init true (slot l) i (none_first (init_mark i) (inits_mark rest) none) (rule_alike n m seen (slot_rule l) s.at t.at (init_pos i) (init_pos i) al)) in
+        let k = inits_alike (further l) (further l') rest (ap further e) (none_second (init_mark i) (inits_mark rest) none) (steps_alike n m seen 1 j.state) in
+        record { inits = ap₂ more_inits j.init k.inits; state = k.state }
 
   pub init_alike : (c c' : Bool) (k k' : Option TypeOf) (i : InitShape) → c' ≡ c → k' ≡ k → init_mark i ≡ None → {s t : State} → Alike n m seen s t → AlikeInit (type_init c k i s) (type_init c' k' i t)
   init_alike c c' k k' i e d none {s} {t} al = subst (λ y. AlikeInit (type_init c k i s) (type_init y k' i t)) (sym e) (subst (λ z. AlikeInit (type_init c k i s) (type_init c z i t)) (sym d) (same_init c k i none al))
@@ -142,9 +141,9 @@ module _ (n m : ℕ) (seen : Seen) where
       }
 
   -- other declarations than parameters
-  other_alike : (defining : Bool) (d : DeclShape) (rest : DeclShapes) {s t : State} → AlikeParams (type_param_list defining rest s) (type_param_list defining rest t) →
+  other_alike : (defining : Bool) (d : DeclShape) (rest : DeclShapes) (s t : State) → AlikeParams (type_param_list defining rest s) (type_param_list defining rest t) →
       AlikeParams (record (type_param_list defining rest s) { params = more_decls d (type_param_list defining rest s).params }) (record (type_param_list defining rest t) { params = more_decls d (type_param_list defining rest t).params })
-  other_alike defining d rest i = record { params = ap (more_decls d) i.params; given = i.given; state = i.state }
+  other_alike defining d rest s t i = record { params = ap (more_decls d) i.params; given = i.given; state = i.state }
 
   complained : {s t : State} → Alike n m seen s t → Alike n m seen (step (complain 33 s.at first_place s)) (step (complain 33 t.at first_place t))
   complained {s} {t} al = steps_alike n m seen 1 (complain_alike n m seen 33 s.at t.at first_place first_place al)
@@ -161,16 +160,16 @@ module _ (n m : ℕ) (seen : Seen) where
       record { params = ap₂ more_decls a.param r.params; given = ap₂ (λ y z. (text_of x, y) ∷ z) a.kind r.given; state = r.state }
   param_list_alike defining (more_decls (decl p specs no_declarators) rest) none al =
       let d = decl p specs no_declarators in
-      other_alike defining d rest (param_list_alike defining rest (none_second (decl_mark d) (decls_mark rest) none) (complained al))
+      other_alike defining d rest _ _ (param_list_alike defining rest (none_second (decl_mark d) (decls_mark rest) none) (complained al))
   param_list_alike defining (more_decls (decl p specs (more_declarators (declarator stars x (function ps) i) no_declarators)) rest) none al =
       let d = decl p specs (more_declarators (declarator stars x (function ps) i) no_declarators) in
-      other_alike defining d rest (param_list_alike defining rest (none_second (decl_mark d) (decls_mark rest) none) (complained al))
+      other_alike defining d rest _ _ (param_list_alike defining rest (none_second (decl_mark d) (decls_mark rest) none) (complained al))
   param_list_alike defining (more_decls (decl p specs (more_declarators (declarator stars x (function ps) i) (more_declarators e more))) rest) none al =
       let d = decl p specs (more_declarators (declarator stars x (function ps) i) (more_declarators e more)) in
-      other_alike defining d rest (param_list_alike defining rest (none_second (decl_mark d) (decls_mark rest) none) (complained al))
+      other_alike defining d rest _ _ (param_list_alike defining rest (none_second (decl_mark d) (decls_mark rest) none) (complained al))
   param_list_alike defining (more_decls (decl p specs (more_declarators (declarator stars x (arrays ls) i) (more_declarators e more))) rest) none al =
       let d = decl p specs (more_declarators (declarator stars x (arrays ls) i) (more_declarators e more)) in
-      other_alike defining d rest (param_list_alike defining rest (none_second (decl_mark d) (decls_mark rest) none) (complained al))
+      other_alike defining d rest _ _ (param_list_alike defining rest (none_second (decl_mark d) (decls_mark rest) none) (complained al))
 
   pub params_alike : (defining : Bool) (ps : ParamsShape) → params_mark ps ≡ None → {s t : State} → Alike n m seen s t → AlikeSignature (type_params defining ps s) (type_params defining ps t)
   params_alike defining empty none al = record { params = refl; given = refl; state = steps_alike n m seen 2 al }

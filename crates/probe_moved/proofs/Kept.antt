@@ -26,6 +26,10 @@ use Rattle.c_tree.specs.Parts.{Length, length_rule, value_rule, passes, Spelled,
 abbrev pub Keeps : State → State → Type 0
 Keeps s t = s.function ≡ t.function
 
+infixl 5 ◌▸◌
+pub ◌▸◌ : {a b c : ℕ} → a ≡ b → b ≡ c → a ≡ c
+p ▸ q = p ∙ q
+
 -- ---- complaints
 
 pub complain_kept : (n token : ℕ) (p : Pos) (s : State) → Keeps s (complain n token p s)
@@ -75,7 +79,7 @@ called_kept p None s = complain_kept 30 s.at p s
 fit_kept : (ts : List TypeOf) (gs : List Given) (s : State) → Keeps s (fit_all ts gs s)
 fit_kept [] gs s = refl
 fit_kept (t ∷ ts) [] s = refl
-fit_kept (t ∷ ts) (g ∷ gs) s = let r = by 33 (fits_type (Some t) g.kind g.null) in rule_kept r g.token g.pos s ∙ fit_kept ts gs (rule r g.token g.pos s)
+fit_kept (t ∷ ts) (g ∷ gs) s = let r = by 33 (fits_type (Some t) g.kind g.null) in rule_kept r g.token g.pos s ▸ fit_kept ts gs (rule r g.token g.pos s)
 
 pick_kept : (b : Bool) (s t u : State) → Keeps s t → Keeps s u → Keeps s (if b then t else u)
 pick_kept true s t u p q = p
@@ -97,7 +101,7 @@ pub infix_kept : (token : ℕ) (o : Pos) (head : ℕ) (p : Pos) (u : Infix) (a b
 infix_kept token o head p (plain u) a b s = rule_kept _ token o s
 infix_kept token o head p and a b s = rule_kept _ token o s
 infix_kept token o head p or a b s = rule_kept _ token o s
-infix_kept token o head p (assign u) a b s = rule_kept (left_side a b) head p s ∙ rule_kept _ token o (rule (left_side a b) head p s)
+infix_kept token o head p (assign u) a b s = rule_kept (left_side a b) head p s ▸ rule_kept _ token o (rule (left_side a b) head p s)
 infix_kept token o head p comma a b s = refl
 
 claimed_kept : (u : Probing) (x : Text) (token : ℕ) (p : Pos) (n m : Option ℕ) (s : State) → Keeps s (claimed u x token p n m s)
@@ -139,7 +143,7 @@ closed_kept None fields s = refl
 closed_kept (Some n) fields s = refl
 
 pub field_kept : (token : ℕ) (p : Pos) (free : Bool) (k : Option TypeOf) (s : State) → Keeps s (field_state token p free k s)
-field_kept token p free k s = demand_kept free 31 token p s ∙ rule_kept (of_kind k (whole s.rooms)) token p (demand free 31 token p s)
+field_kept token p free k s = demand_kept free 31 token p s ▸ rule_kept (of_kind k (whole s.rooms)) token p (demand free 31 token p s)
 
 pub declared_kept : (token : ℕ) (p : Pos) (x : Text) (e : Entity) (o : Option Entity) (s : State) → Keeps s (declared_at token p x e o s)
 declared_kept token p x e None s = refl
@@ -169,75 +173,75 @@ mutual
   pub form_kept : (p o : Pos) (f : ExprShape) (s : State) → Keeps s (type_form p o f s).state
   form_kept p o (leaf (number t)) s = demand_kept _ 33 s.at p s
   form_kept p o (leaf (char c)) s = refl
-  form_kept p o (leaf (str t)) s = literal_kept s.quiet t s ∙ rule_kept _ s.at p (with_literal t s)
+  form_kept p o (leaf (str t)) s = literal_kept s.quiet t s ▸ rule_kept _ s.at p (with_literal t s)
   form_kept p o (leaf (name x)) s = entity_kept p (find x s.names) s
   form_kept p o (paren a) s = node_kept a (step s)
   form_kept p o (call x args) s =
       let c = called p x s in
       let t = type_arguments [] args (steps (opening args) c.state) in
-      called_kept p (find x s.names) s ∙ arguments_kept [] args (steps (opening args) c.state) ∙ typed_call_kept p s.at (is_clean c.state t.state) c.function t.given t.state
+      called_kept p (find x s.names) s ▸ arguments_kept [] args (steps (opening args) c.state) ▸ typed_call_kept p s.at (is_clean c.state t.state) c.function t.given t.state
   form_kept p o (prefix (unary u) a) s =
       let t = type_node a (step s) in
-      node_kept a (step s) ∙ rule_kept (place_rule u t.sort) (step s).at (pos_in a) t.state ∙ rule_kept _ s.at o (rule (place_rule u t.sort) (step s).at (pos_in a) t.state)
+      node_kept a (step s) ▸ rule_kept (place_rule u t.sort) (step s).at (pos_in a) t.state ▸ rule_kept _ s.at o (rule (place_rule u t.sort) (step s).at (pos_in a) t.state)
   form_kept p o (prefix (before u) a) s =
       let t = type_node a (step s) in
-      node_kept a (step s) ∙ rule_kept (changeable t.sort) (step s).at (pos_in a) t.state ∙ rule_kept _ s.at o (rule (changeable t.sort) (step s).at (pos_in a) t.state)
+      node_kept a (step s) ▸ rule_kept (changeable t.sort) (step s).at (pos_in a) t.state ▸ rule_kept _ s.at o (rule (changeable t.sort) (step s).at (pos_in a) t.state)
   form_kept p o (prefix size_of a) s =
       let t = type_node a (hushed (step s)) in
-      node_kept a (hushed (step s)) ∙ rule_kept _ s.at o (heard s.quiet t.state)
+      node_kept a (hushed (step s)) ▸ rule_kept _ s.at o (heard s.quiet t.state)
   form_kept p o (size_of_type y) s =
       let t = type_type y (steps 2 s) in
-      type_kept y (steps 2 s) ∙ rule_kept _ s.at o (step t.state)
+      type_kept y (steps 2 s) ▸ rule_kept _ s.at o (step t.state)
   form_kept p o (cast y a) s =
       let k = type_type y (step s) in
       let t = type_node a (step k.state) in
-      type_kept y (step s) ∙ node_kept a (step k.state) ∙ rule_kept _ s.at o t.state
+      type_kept y (step s) ▸ node_kept a (step k.state) ▸ rule_kept _ s.at o t.state
   form_kept p o (suffix a (index b)) s =
       let t = type_node a s in
       let v = type_node b (step t.state) in
-      node_kept a s ∙ node_kept b (step t.state) ∙ rule_kept _ t.state.at o v.state
+      node_kept a s ▸ node_kept b (step t.state) ▸ rule_kept _ t.state.at o v.state
   form_kept p o (suffix a (field h x q)) s =
       let t = type_node a s in
       let v = step (rule (holder h t.state.rooms t.sort.kind) t.state.at o t.state) in
-      node_kept a s ∙ rule_kept (holder h t.state.rooms t.sort.kind) t.state.at o t.state ∙ rule_kept _ v.at q v
+      node_kept a s ▸ rule_kept (holder h t.state.rooms t.sort.kind) t.state.at o t.state ▸ rule_kept _ v.at q v
   form_kept p o (suffix a (behind u)) s =
       let t = type_node a s in
-      node_kept a s ∙ rule_kept (changeable t.sort) s.at (pos_in a) (step t.state) ∙ rule_kept _ t.state.at o (rule (changeable t.sort) s.at (pos_in a) (step t.state))
+      node_kept a s ▸ rule_kept (changeable t.sort) s.at (pos_in a) (step t.state) ▸ rule_kept _ t.state.at o (rule (changeable t.sort) s.at (pos_in a) (step t.state))
   form_kept p o (two u a b) s =
       let t = type_node a s in
       let v = type_node b (step t.state) in
-      node_kept a s ∙ node_kept b (step t.state) ∙ infix_kept t.state.at o s.at (pos_in a) u t.sort v.sort v.state
+      node_kept a s ▸ node_kept b (step t.state) ▸ infix_kept t.state.at o s.at (pos_in a) u t.sort v.sort v.state
   form_kept p o (choose a b c) s =
       let t = type_node a s in
       let v = type_node b (step t.state) in
       let w = type_node c (step v.state) in
-      node_kept a s ∙ node_kept b (step t.state) ∙ node_kept c (step v.state) ∙ rule_kept _ t.state.at o w.state
+      node_kept a s ▸ node_kept b (step t.state) ▸ node_kept c (step v.state) ▸ rule_kept _ t.state.at o w.state
   form_kept p o (probe (simple u x) a) s =
       let v = steps 4 (claim u x s.at p s) in
-      claim_kept u x s.at p s ∙ node_kept a v ∙ rule_kept _ s.at p (type_node a v).state
+      claim_kept u x s.at p s ▸ node_kept a v ▸ rule_kept _ s.at p (type_node a v).state
   form_kept p o (probe (select x cs) a) s =
       let v = steps 3 (claim test x s.at p s) in
       let t = type_cases [] cs v in
-      claim_kept test x s.at p s ∙ cases_kept [] cs v ∙ node_kept a (step t.state) ∙ rule_kept _ s.at p (type_node a (step t.state)).state
+      claim_kept test x s.at p s ▸ cases_kept [] cs v ▸ node_kept a (step t.state) ▸ rule_kept _ s.at p (type_node a (step t.state)).state
 
   pub arguments_kept : (gs : List Given) (es : NodeShapes) (s : State) → Keeps s (type_arguments gs es s).state
   arguments_kept gs no_nodes s = refl
   arguments_kept gs (more_nodes a rest) s =
       let t = type_node a (step s) in
-      node_kept a (step s) ∙ arguments_kept (gs ++ given_at (step s).at (pos_in a) t.sort ∷ []) rest t.state
+      node_kept a (step s) ▸ arguments_kept (gs ++ given_at (step s).at (pos_in a) t.sort ∷ []) rest t.state
 
   pub cases_kept : (vs : List (Option ℤ)) (es : NodeShapes) (s : State) → Keeps s (type_cases vs es s).state
   cases_kept vs no_nodes s = refl
   cases_kept vs (more_nodes a rest) s =
       let t = type_node a (step s) in
       let v = judged_constant (step s).at (pos_in a) t.sort t.state in
-      node_kept a (step s) ∙ rule_kept (constant_rule t.sort) (step s).at (pos_in a) t.state ∙ cases_kept (vs ++ constants.value t.sort.constant ∷ []) rest v
+      node_kept a (step s) ▸ rule_kept (constant_rule t.sort) (step s).at (pos_in a) t.state ▸ cases_kept (vs ++ constants.value t.sort.constant ∷ []) rest v
 
   pub type_kept : (y : TypeShape) (s : State) → Keeps s (type_type y s).state
   type_kept (type_name p specs stars ls) s =
       let t = type_specs false specs unspelled s in
       let r = spelled_rule t.spelled in
-      specs_kept false specs unspelled s ∙ rule_kept r s.at p t.state ∙ lengths_kept [] ls (steps (star_tokens stars) (rule r s.at p t.state))
+      specs_kept false specs unspelled s ▸ rule_kept r s.at p t.state ▸ lengths_kept [] ls (steps (star_tokens stars) (rule r s.at p t.state))
 
   pub lengths_kept : (ls : List Length) (l : LengthShapes) (s : State) → Keeps s (type_lengths ls l s).state
   lengths_kept ls no_lengths s = refl
@@ -245,15 +249,15 @@ mutual
   lengths_kept ls (more_lengths (one_node a) rest) s =
       let t = type_node a (step s) in
       let v = judged_length (step s).at (pos_in a) t.sort t.state in
-      node_kept a (step s) ∙ rule_kept (length_rule t.sort) (step s).at (pos_in a) t.state ∙ lengths_kept (ls ++ length_of t.sort ∷ []) rest (step v)
+      node_kept a (step s) ▸ rule_kept (length_rule t.sort) (step s).at (pos_in a) t.state ▸ lengths_kept (ls ++ length_of t.sort ∷ []) rest (step v)
 
   pub specs_kept : (alone : Bool) (x : SpecShapes) (a : Spelled) (s : State) → Keeps s (type_specs alone x a s).state
   specs_kept alone no_specs a s = refl
   specs_kept alone (more_specs p (word k) rest) a s =
       let v = demand (static_fits k s.file) 37 s.at p s in
-      demand_kept (static_fits k s.file) 37 s.at p s ∙ specs_kept alone rest (with_word k a) (step v)
-  specs_kept alone (more_specs p (struct t ds) rest) a s = let r = type_struct alone t ds (step s) in struct_kept alone t ds (step s) ∙ specs_kept alone rest (with_tagged r.kind a) r.state
-  specs_kept alone (more_specs p (enum t es) rest) a s = let r = type_enum t es (step s) in enum_kept t es (step s) ∙ specs_kept alone rest (with_tagged r.kind a) r.state
+      demand_kept (static_fits k s.file) 37 s.at p s ▸ specs_kept alone rest (with_word k a) (step v)
+  specs_kept alone (more_specs p (struct t ds) rest) a s = let r = type_struct alone t ds (step s) in struct_kept alone t ds (step s) ▸ specs_kept alone rest (with_tagged r.kind a) r.state
+  specs_kept alone (more_specs p (enum t es) rest) a s = let r = type_enum t es (step s) in enum_kept t es (step s) ▸ specs_kept alone rest (with_tagged r.kind a) r.state
 
   struct_kept : (alone : Bool) (t : Option Named) (ds : MaybeDecls) (s : State) → Keeps s (type_struct alone t ds s).state
   struct_kept alone t no_members s = opened_kept alone false t s
@@ -261,7 +265,7 @@ mutual
       let o = opened alone true t s in
       let b = step (steps (tag_tokens t) (begun_at o.number o.state)) in
       let r = type_lines ds [] (within b) in
-      opened_kept alone true t s ∙ begun_kept o.number o.state ∙ lines_kept ds [] (within b) ∙ closed_kept o.number r.fields r.state
+      opened_kept alone true t s ▸ begun_kept o.number o.state ▸ lines_kept ds [] (within b) ▸ closed_kept o.number r.fields r.state
 
   pub lines_kept : (ds : DeclShapes) (fields : List FieldShape) (s : State) → Keeps s (type_lines ds fields s).state
   lines_kept no_decls fields s = refl
@@ -270,7 +274,7 @@ mutual
       let r = spelled_rule t.spelled in
       let v = rule r s.at p t.state in
       let n = type_fields p (kind_at r) names fields v in
-      specs_kept false specs unspelled s ∙ rule_kept r s.at p t.state ∙ fields_kept p (kind_at r) names fields v ∙ lines_kept rest n.fields n.state
+      specs_kept false specs unspelled s ▸ rule_kept r s.at p t.state ▸ fields_kept p (kind_at r) names fields v ▸ lines_kept rest n.fields n.state
 
   pub fields_kept : (p : Pos) (k : Option TypeOf) (names : DeclaratorShapes) (fields : List FieldShape) (s : State) → Keeps s (type_fields p k names fields s).state
   fields_kept p k no_declarators fields s = refl
@@ -280,22 +284,22 @@ mutual
       let t = arrays_of l.counts (pointed stars k) in
       let free = is_free (field_type (text_of x) fields) in
       let v = field_state b.at (name_pos p x) free t l.state in
-      lengths_kept [] ls (step b) ∙ field_kept b.at (name_pos p x) free t l.state ∙ fields_kept p k rest (with_field free (text_of x) t fields) (step v)
+      lengths_kept [] ls (step b) ▸ field_kept b.at (name_pos p x) free t l.state ▸ fields_kept p k rest (with_field free (text_of x) t fields) (step v)
   fields_kept p k (more_declarators (declarator stars x (function ps) i) rest) fields s =
       let b = steps (star_tokens stars) s in
-      complain_kept 33 b.at (name_pos p x) (step b) ∙ fields_kept p k rest fields (complain 33 b.at (name_pos p x) (step b))
+      complain_kept 33 b.at (name_pos p x) (step b) ▸ fields_kept p k rest fields (complain 33 b.at (name_pos p x) (step b))
 
   enum_kept : (t : Option Named) (es : MaybeEnumers) (s : State) → Keeps s (type_enum t es s).state
   enum_kept t no_rows s = enumeration_kept false t s
-  enum_kept t (rows es) s = enumeration_kept true t s ∙ rows_kept (Some (pos 0)) es (step (steps (tag_tokens t) (enumeration true t s)))
+  enum_kept t (rows es) s = enumeration_kept true t s ▸ rows_kept (Some (pos 0)) es (step (steps (tag_tokens t) (enumeration true t s)))
 
   pub rows_kept : (next : Option ℤ) (es : EnumerShapes) (s : State) → Keeps s (rows_types next es s).state
   rows_kept next no_enumers s = refl
   rows_kept next (more_enumers x v rest) s =
       let r = type_value s.at x.pos next v (step s) in
       let d = declare s.at x.pos x.text (entity_of r.value) r.state in
-      value_kept s.at x.pos next v (step s) ∙ declared_kept s.at x.pos x.text (entity_of r.value) (find_here x.text r.state.names) r.state ∙ rows_kept (after r.value) rest (step d)
+      value_kept s.at x.pos next v (step s) ▸ declared_kept s.at x.pos x.text (entity_of r.value) (find_here x.text r.state.names) r.state ▸ rows_kept (after r.value) rest (step d)
 
   value_kept : (token : ℕ) (p : Pos) (next : Option ℤ) (v : MaybeNode) (s : State) → Keeps s (type_value token p next v s).state
   value_kept token p next no_node s = demand_kept (not (passes next)) 35 token p s
-  value_kept token p next (one_node a) s = let t = type_node a (step s) in node_kept a (step s) ∙ rule_kept (value_rule t.sort) (step s).at (pos_in a) t.state
+  value_kept token p next (one_node a) s = let t = type_node a (step s) in node_kept a (step s) ▸ rule_kept (value_rule t.sort) (step s).at (pos_in a) t.state

@@ -16,11 +16,8 @@ use Rattle.c_tree.specs.Initialisers.{lengths_with}
 use Rattle.c_tree.specs.Declaring.{name_tokens, claim_name, token_of_name, variable_rule, has_init, parameter_rule, type_param}
 use Rattle.c_sites_probes.specs.Marked.{name_mark, lengths_mark, maybe_init_mark}
 use Rattle.probe_rules.proofs.Moved.{Alike, AlikeSpecs, lengths_alike}
+use Rattle.probe_moved.specs.Moved.{marked, behind_stars}
 use Rattle.probe_moved.proofs.States.{tokens_alike, met_alike, unclaimed, variable_rule_same, judged_variable, judged_variable_alike, parameter_rule_same, judged_parameter, judged_parameter_alike}
-
--- a name with that probe round it
-abbrev pub marked : ProbeMark → Named → Named
-marked g y = record y { probe = Some g }
 
 -- the lengths of a variable, its type, and what is known before its initialiser
 abbrev pub variable_lengths : List Star → Option Named → LengthShapes → MaybeInit → State → TypedLengths
@@ -62,12 +59,9 @@ module _ (n m : ℕ) (seen : Seen) where
         state = judged_variable_alike n m seen _ _ y.pos y.text _ _ _ _ counts d l.state;
       }
 
--- the specifiers of a parameter, what is known behind its stars, and its lengths
-abbrev pub param_begun : Pos → SpecShapes → List Star → State → State
-param_begun p specs stars s = let t = type_specs false specs unspelled s in steps (star_tokens stars) (rule (spelled_rule t.spelled) s.at p t.state)
-
+-- the lengths of a parameter
 abbrev pub param_lengths : Pos → SpecShapes → List Star → Option Named → LengthShapes → State → TypedLengths
-param_lengths p specs stars x ls s = type_lengths [] ls (steps (name_tokens x) (claim_name true x (param_begun p specs stars s)))
+param_lengths p specs stars x ls s = type_lengths [] ls (steps (name_tokens x) (claim_name true x (behind_stars p specs stars s)))
 
 module _ (n m : ℕ) (seen : Seen) where
   pub record AlikeParameter (p : Pos) (specs : SpecShapes) (stars : List Star) (y : Named) (g : ProbeMark) (ls : LengthShapes) (i : MaybeInit) (s t : State) : Type 0 where
@@ -77,7 +71,7 @@ module _ (n m : ℕ) (seen : Seen) where
 
   -- a parameter of a definition, whose specifiers are the same type
   pub param_marked : (p : Pos) (specs : SpecShapes) (stars : List Star) (y : Named) (g : ProbeMark) (ls : LengthShapes) (i : MaybeInit) → name_mark (Some y) ≡ None → lengths_mark ls ≡ None →
-      {s t : State} → (type_specs false specs unspelled t).spelled ≡ (type_specs false specs unspelled s).spelled → (let b = param_begun p specs stars t in Alike n m seen (param_begun p specs stars s) (claim def g.number b.at g.pos b)) → AlikeParameter p specs stars y g ls i s t
+      {s t : State} → (type_specs false specs unspelled t).spelled ≡ (type_specs false specs unspelled s).spelled → (let b = behind_stars p specs stars t in Alike n m seen (behind_stars p specs stars s) (claim def g.number b.at g.pos b)) → AlikeParameter p specs stars y g ls i s t
   param_marked p specs stars y g ls i none none_long {s} {t} e al =
       let l = lengths_alike n m seen ls none_long [] [] refl (name_marked n m seen true true y g none refl al) in
       let k = ap (λ z. pointed stars (kind_at (spelled_rule z))) e in

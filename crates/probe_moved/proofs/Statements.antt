@@ -47,7 +47,7 @@ module _ (n m : ℕ) (seen : Seen) where
   test_alike no_node none al = record { node = refl; state = al }
   test_alike (one_node a) none {s} {t} al =
       let i = node_alike n m seen a none al in
-      record { node = ap one_node i.node; state = tested_alike s.at t.at _ _ (ap (λ (z : Sort). truth_type z.kind) i.sort) i.state }
+      record { node = ap one_node i.node; state = tested_alike s.at t.at (type_node a s) (type_node a t) (ap (λ (z : Sort). truth_type z.kind) i.sort) i.state }
 
   pub result_alike : (token token' : ℕ) (p : Pos) (k : Option TypeOf) (e : MaybeNode) → maybe_mark e ≡ None → {s t : State} → Alike n m seen s t → AlikeMaybe (type_result token p k e s) (type_result token' p k e t)
   result_alike token token' p k no_node none al = record { node = refl; state = al }
@@ -66,28 +66,28 @@ module _ (n m : ℕ) (seen : Seen) where
   same_case token token' p None v al = complain_alike n m seen 37 token token' p p al
   same_case token token' p (Some l) v al = demand_alike n m seen (not (comes_twice l.kind (as_kind l.kind v) l.values)) 36 token token' p al
 
-  pub case_state_alike : (token token' : ℕ) (p : Pos) (o : Option Labels) (v v' : Option ℤ) → v' ≡ v → {s t : State} → Alike n m seen s t → Alike n m seen (case_state token p o v s) (case_state token' p o v' t)
-  case_state_alike token token' p o v v' e {s} {t} al = subst (λ z. Alike n m seen (case_state token p o v s) (case_state token' p o z t)) (sym e) (same_case token token' p o v al)
+  pub case_state_alike : (token token' : ℕ) (p : Pos) (o o' : Option Labels) (v v' : Option ℤ) → o' ≡ o → v' ≡ v → {s t : State} → Alike n m seen s t → Alike n m seen (case_state token p o v s) (case_state token' p o' v' t)
+  case_state_alike token token' p o o' v v' e d {s} {t} al =
+      subst (λ y. Alike n m seen (case_state token p o v s) (case_state token' p y v' t)) (sym e) (subst (λ z. Alike n m seen (case_state token p o v s) (case_state token' p o z t)) (sym d) (same_case token token' p o v al))
 
-  pub default_state_alike : (token token' : ℕ) (p : Pos) (o : Option Labels) {s t : State} → Alike n m seen s t → Alike n m seen (default_state token p o s) (default_state token' p o t)
-  default_state_alike token token' p None al = complain_alike n m seen 37 token token' p p al
-  default_state_alike token token' p (Some l) al = demand_alike n m seen (not l.default) 36 token token' p al
+  same_default : (token token' : ℕ) (p : Pos) (o : Option Labels) {s t : State} → Alike n m seen s t → Alike n m seen (default_state token p o s) (default_state token' p o t)
+  same_default token token' p None al = complain_alike n m seen 37 token token' p p al
+  same_default token token' p (Some l) al = demand_alike n m seen (not l.default) 36 token token' p al
 
-  mutual
-    same_labels : (o : Option Labels) (ls : List LabelShape) → labels_mark ls ≡ None → {s t : State} → Alike n m seen s t → AlikeLabels (type_labels o ls s) (type_labels o ls t)
-    same_labels o [] none al = record { labels = refl; so_far = refl; state = al }
-    same_labels o (case p a ∷ rest) none {s} {t} al =
-        let x = type_node a (step s) in
-        let y = type_node a (step t) in
-        let i = node_alike n m seen a (none_first (node_mark a) (labels_mark rest) none) (steps_alike n m seen 1 al) in
-        let v = ap (λ (z : Sort). constants.value z.constant) i.sort in
-        let c = case_state_alike s.at t.at p o (constants.value x.sort.constant) (constants.value y.sort.constant) v (judged_by n m seen constant_rule x y (step s).at (step t).at (pos_in a) i) in
-        let j = labels_alike _ _ rest (ap (case_labels o) v) (none_second (node_mark a) (labels_mark rest) none) (steps_alike n m seen 1 c) in
-        record { labels = ap₂ (λ y z. case p y ∷ z) i.node j.labels; so_far = j.so_far; state = j.state }
-    same_labels o (default p ∷ rest) none {s} {t} al =
-        let j = same_labels (default_labels o) rest none (steps_alike n m seen 2 (default_state_alike s.at t.at p o al)) in
-        record { labels = ap (λ z. default p ∷ z) j.labels; so_far = j.so_far; state = j.state }
+  pub default_state_alike : (token token' : ℕ) (p : Pos) (o o' : Option Labels) → o' ≡ o → {s t : State} → Alike n m seen s t → Alike n m seen (default_state token p o s) (default_state token' p o' t)
+  default_state_alike token token' p o o' e {s} {t} al = subst (λ z. Alike n m seen (default_state token p o s) (default_state token' p z t)) (sym e) (same_default token token' p o al)
 
-    -- labels, directly in a switch or not
-    pub labels_alike : (o o' : Option Labels) (ls : List LabelShape) → o' ≡ o → labels_mark ls ≡ None → {s t : State} → Alike n m seen s t → AlikeLabels (type_labels o ls s) (type_labels o' ls t)
-    labels_alike o o' ls e none {s} {t} al = subst (λ z. AlikeLabels (type_labels o ls s) (type_labels z ls t)) (sym e) (same_labels o ls none al)
+  -- labels, directly in a switch or not
+  pub labels_alike : (o o' : Option Labels) (ls : List LabelShape) → o' ≡ o → labels_mark ls ≡ None → {s t : State} → Alike n m seen s t → AlikeLabels (type_labels o ls s) (type_labels o' ls t)
+  labels_alike o o' [] e none al = record { labels = refl; so_far = e; state = al }
+  labels_alike o o' (case p a ∷ rest) e none {s} {t} al =
+      let x = type_node a (step s) in
+      let y = type_node a (step t) in
+      let i = node_alike n m seen a (none_first (node_mark a) (labels_mark rest) none) (steps_alike n m seen 1 al) in
+      let v = ap (λ (z : Sort). constants.value z.constant) i.sort in
+      let c = case_state_alike s.at t.at p o o' (constants.value x.sort.constant) (constants.value y.sort.constant) e v (judged_by n m seen constant_rule x y (step s).at (step t).at (pos_in a) i) in
+      let j = labels_alike (case_labels o (constants.value x.sort.constant)) (case_labels o' (constants.value y.sort.constant)) rest (ap₂ case_labels e v) (none_second (node_mark a) (labels_mark rest) none) (steps_alike n m seen 1 c) in
+      record { labels = ap₂ (λ y z. case p y ∷ z) i.node j.labels; so_far = j.so_far; state = j.state }
+  labels_alike o o' (default p ∷ rest) e none {s} {t} al =
+      let j = labels_alike (default_labels o) (default_labels o') rest (ap default_labels e) none (steps_alike n m seen 2 (default_state_alike s.at t.at p o o' e al)) in
+      record { labels = ap (λ z. default p ∷ z) j.labels; so_far = j.so_far; state = j.state }

@@ -1,0 +1,3 @@
+mod Labels
+mod Statements
+pub mod Trial
