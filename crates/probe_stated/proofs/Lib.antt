@@ -2,4 +2,4 @@ mod Labels
 pub mod Again
 mod Locals
 mod Statements
-pub mod Laws
+pub mod Bodies

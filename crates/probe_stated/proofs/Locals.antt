@@ -51,7 +51,8 @@ use Rattle.probe_laws.proofs.KnownNodes.{lengths_know, specs_know, all_specs, de
 use Rattle.probe_laws.proofs.FitDecls.{name_goes, declarator_fits, variable_at_goes, with_clear, variable_settled, decl_fits, decls_fit}
 use Rattle.probe_moved.proofs.States.{function_same, quiet_same, judged_variable}
 use Rattle.probe_moved.proofs.Decls as plain_ones
-use Rattle.probe_moved.proofs.Marked.{marked, variable_lengths, variable_kind, variable_state, AlikeVariable, variable_marked}
+use Rattle.probe_moved.specs.Moved.{marked}
+use Rattle.probe_moved.proofs.Marked.{variable_lengths, variable_kind, variable_state, AlikeVariable, variable_marked}
 use Rattle.probe_typed.specs.Typed.{Follows, IsTypedAs}
 use Rattle.probe_typed.proofs.Parts.{nodes_typed}
 use Rattle.probe_stated.specs.Stated.{AreDeclsTypedAs, DeclsAreTypedAs}

@@ -84,12 +84,6 @@ maybe_test_known (one_node a) s is h c = test_known s.at a s is.1 h c
 
 -- ---- blocks
 
-part_is : (tables : TablesShape) (c : Around) (a : StmtShape) (w : Walked) → walk_part tables c a w ≡ walk_stmt tables c a (with_block (pos_of_stmt a) w)
-part_is tables c (stmt p ms q f) w = refl
-
-place_same : (e : Surroundings) (a : StmtShape) (s : State) → pos_of_stmt (type_stmt e a s).stmt ≡ pos_of_stmt a
-place_same e (stmt p ms q f) s = refl
-
 -- in front of a statement that is a block its number is claimed
 marked : (b : Bool) (p : Pos) (w : Walked) {s t : State} → HasFewItems (with_block_if b p w) → Follows w s t → Follows (with_block_if b p w) s (type_marks (block_marks b p w) t)
 marked true p w {t = t} few al = further_alike 0 0 (seen_at (with_block p w)) 5 (block_claimed 0 0 t.at p p w (few_blocks p w few) al)
@@ -135,12 +129,13 @@ module _ (tables : TablesShape) (declared : DeclsAreTypedAs) where
         let p = probed_stmt tables c true x.stmt w in
         let v = walk_part tables c x.stmt w in
         stmt_mark x.stmt ≡ None → IsClean x.state → HasFewItems v → Follows w s t → IsStmtTypedAs v x p (type_stmt e p t))
-    part_typed c e a w s t is m h n clean few al =
-        let x = type_stmt e a s in
-        let p = probed_stmt tables c true x.stmt w in
-        let v = walk_stmt tables c x.stmt (with_block (pos_of_stmt x.stmt) w) in
-        let same = part_is tables c x.stmt w in
-        subst (λ z. IsStmtTypedAs z x p (type_stmt e p t)) (sym same) (stmt_typed c e true a w s t is m h n clean (subst HasFewItems same few) al)
+    part_typed c e (stmt p (g ∷ gs) q f) w s t is m h n clean few al = absurd (cc)
+    part_typed c e (stmt p [] q f) w s t is m h n clean few al =
+        let x = type_body e q f s in
+        let v = with_block p w in
+        let few_v : HasFewItems v = few_before (stmt_on tables c (stmt p [] q x.form) v) few in
+        let i = body_typed c e q f v s (type_marks (block_marks true p w) t) is m h n clean few (marked true p w few_v al) in
+        record { stmt = ap (stmt p (block_marks true p w) q) i.form; state = i.state }
 
     body_typed : (c : Around) (e : Surroundings) (p : Pos) (f : FormShape) (w : Walked) (s t : State) → ShapedForm f → body_mark f ≡ None → Knows false s → (
         let x = type_body e p f s in
@@ -243,20 +238,7 @@ module _ (tables : TablesShape) (declared : DeclsAreTypedAs) where
         let known'' = maybe_known f (step y.state) is.2 known' stepped in
         let four = part_typed c (in_loop e) g v'' (step z.state) (step z'.state) is.3 (none_second (maybe_mark f) (stmt_mark g) m2) known'' (none_second (maybe_mark z.node) (stmt_mark b.stmt) n2) clean few (steps_alike 0 0 (seen_at v'') 1 there.state) in
         record { form = three (λ i j k. for i j k (type_stmt (in_loop e) (probed_stmt tables c true b.stmt v'') (step z'.state)).stmt) one.node two.node there.node ∙ ap (for (probed_maybe c x.node w) (probed_maybe_test c y.node v) (probed_step c z.node v')) four.stmt; state = four.state }
-    body_typed c e p (switch a items) w s t is m h n clean few al = switch_typed c e p a items w s t is m h n clean few al
-    body_typed c e p break w s t is m h n clean few al = record { form = refl; state = steps_alike 0 0 (seen_at w) 2 (demand_alike 0 0 (seen_at w) e.breakable 37 s.at t.at p al) }
-    body_typed c e p continue w s t is m h n clean few al = record { form = refl; state = steps_alike 0 0 (seen_at w) 2 (demand_alike 0 0 (seen_at w) e.loop 37 s.at t.at p al) }
-    body_typed c e p (return a) w s t is m h n clean few al =
-        let x = type_result s.at p e.result a (step s) in
-        let i = results_typed false c s.at t.at p e.result 0 a w (step s) (step t) is m h clean few (steps_alike 0 0 (seen_at w) 1 al) in
-        record { form = ap return i.node; state = steps_alike 0 0 (seen_at (walk_maybe c x.node w)) 1 i.state }
-
-    switch_typed : (c : Around) (e : Surroundings) (p : Pos) (a : NodeShape) (items : ItemShapes) (w : Walked) (s t : State) → ShapedForm (switch a items) → body_mark (switch a items) ≡ None → Knows false s → (
-        let x = type_body e p (switch a items) s in
-        let g = probed_body tables c x.form w in
-        let v = walk_body tables c x.form w in
-        body_mark x.form ≡ None → IsClean x.state → HasFewItems v → Follows w s t → IsFormTypedAs v x g (type_body e p g t))
-    switch_typed c e p a items w s t is m h n clean few al =
+    body_typed c e p (switch a items) w s t is m h n clean few al =
         let x = type_node a (steps 2 s) in
         let r = switched x in
         let u = rule r (steps 2 s).at (pos_in x.node) x.state in
@@ -280,6 +262,12 @@ module _ (tables : TablesShape) (declared : DeclsAreTypedAs) where
         let labelled : Some (no_labels (switched z)) ≡ o = ap (λ k. Some (no_labels (by 33 k))) same in
         let j = items_typed c (in_switch e) o (Some (no_labels (switched z))) false items v (steps 2 u) (steps 2 u') labelled is.1 (none_second (node_mark a) (items_mark items) m) known (none_second (node_mark x.node) (items_mark y.items) n) clean few (steps_alike 0 0 (seen_at v) 2 judged) in
         record { form = ap₂ switch i.0 j.items; state = steps_alike 0 0 (seen_at (walk_items tables c false y.items v)) 1 j.state }
+    body_typed c e p break w s t is m h n clean few al = record { form = refl; state = steps_alike 0 0 (seen_at w) 2 (demand_alike 0 0 (seen_at w) e.breakable 37 s.at t.at p al) }
+    body_typed c e p continue w s t is m h n clean few al = record { form = refl; state = steps_alike 0 0 (seen_at w) 2 (demand_alike 0 0 (seen_at w) e.loop 37 s.at t.at p al) }
+    body_typed c e p (return a) w s t is m h n clean few al =
+        let x = type_result s.at p e.result a (step s) in
+        let i = results_typed false c s.at t.at p e.result 0 a w (step s) (step t) is m h clean few (steps_alike 0 0 (seen_at w) 1 al) in
+        record { form = ap return i.node; state = steps_alike 0 0 (seen_at (walk_maybe c x.node w)) 1 i.state }
 
     pub compound_typed : (c : Around) (e : Surroundings) (b : CompoundShape) (w : Walked) (s t : State) → ShapedCompound b → compound_mark b ≡ None → Knows false s → (
         let x = type_compound e b s in

@@ -9,13 +9,13 @@ pub fn decls_are_typed_as()
 {}
 
 /// So are statements, blocks or not.
-#[tactic(auto, using(crate::proofs::Laws::stmts_typed))]
+#[tactic(auto, using(crate::proofs::Bodies::stmts_typed))]
 pub fn stmts_are_typed_as()
     ensures { StmtsAreTypedAs }
 {}
 
 /// So are the bodies of functions.
-#[tactic(auto, using(crate::proofs::Laws::compounds_typed))]
+#[tactic(auto, using(crate::proofs::Bodies::compounds_typed))]
 pub fn compounds_are_typed_as()
     ensures { CompoundsAreTypedAs }
 {}
