@@ -28,8 +28,7 @@ use Rattle.c_sites_probes.specs.Marked.{mark_in, name_mark}
 use Rattle.probe_rules.proofs.ReadyUnits.{some_none}
 use Rattle.probe_rules.proofs.Moved.{moved, Alike, Counts, moves, on_moved, steps_alike, complain_alike, demand_alike, rule_alike, ruled_alike, outside_alike}
 
--- ---- what is judged behind lengths and parentheses
-
+-- a variable and a parameter, behind their lengths, and a function, behind its parentheses
 abbrev pub judged_variable : ℕ → Pos → Text → List Length → Option TypeOf → State → State
 judged_variable token p x cs k s = let r = variable_rule s.rooms cs k in declare_variable token p x (kind_at r) (rule r token p s)
 

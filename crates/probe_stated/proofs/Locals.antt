@@ -251,7 +251,7 @@ module _ (tables : TablesShape) (c : Around) (k k' : Option TypeOf) (stars : Lis
       let v = steps (name_tokens (Some y)) (claim_name (nat_eq s.function 0 || true) (Some y) (steps (star_tokens stars) s)) in
       let l = type_lengths [] ls v in
       let again : type_lengths [] l.lengths v ≡ l = lengths_again [] [] ls v v in
-      let r : AlikeVariable 0 0 (seen_at behind_name) k k' stars y mark l.lengths (one_init i) (one_init i') s t = variable_marked 0 0 (seen_at behind_name) k k' stars y mark l.lengths (one_init i) (one_init i') e none long (λ cs. same_first i i' cs same) (or_true (nat_eq t.function 0)) (claimed few al) in
+      let r : AlikeVariable 0 0 (seen_at behind_name) k k' stars y mark l.lengths (one_init i) (one_init i') s t = variable_marked 0 0 (seen_at behind_name) k k' stars y mark l.lengths (one_init i) (one_init i') e none long (λ cs. same_first i i' cs same) s t (or_true (nat_eq t.function 0)) (claimed few al) in
       let begun = steps (star_tokens stars) s in
       record {
         lengths = r.lengths ∙ ap (λ (z : TypedLengths). z.lengths) again;
