@@ -1,50 +1,48 @@
 -- Statements with their probes are typed as they stand, where local declarations are.
-use Rattle.std.proofs.Common.{◌≡◌, ℕ, ℤ, List, [], ◌∷◌, length, Bool, true, false, Option, Some, None, ◌∙◌, refl, sym, ap, ap₂, subst}
+use Rattle.std.proofs.Common.{◌≡◌, ℕ, List, [], ◌∷◌, length, Bool, true, false, Option, Some, None, ◌∙◌, refl, ap, ap₂, subst}
 use Rattle.std.specs.Prelude.{◌||◌}
 use Rattle.c_base.specs.declared.place.Pos.{Pos}
-use Rattle.c_syntax.specs.Shape.{NodeShape, MaybeNode, no_node, one_node, LabelShape, case, default, StmtShape, stmt, FormShape, compound, simply, when, either, while, do_while, for, switch, break, continue, return, CompoundShape, braces, ItemShapes, no_items, more_items}
-use Rattle.c_syntax.specs.Shaped.{Shaped, ShapedMaybe, ShapedLabels, ShapedStmt, ShapedForm, ShapedCompound, ShapedItems}
+use Rattle.c_syntax.specs.Shape.{NodeShape, MaybeNode, no_node, one_node, LabelShape, StmtShape, stmt, FormShape, compound, simply, when, either, while, do_while, for, switch, break, continue, return, CompoundShape, braces, ItemShapes, no_items, more_items}
+use Rattle.c_syntax.specs.Shaped.{Shaped, ShapedMaybe, ShapedStmt, ShapedForm, ShapedCompound, ShapedItems}
 use Rattle.c_type_rules.specs.Verdicts.{truth_type, promoted_type}
-use Rattle.c_constants.specs.Constants as constants
 use Rattle.c_tables.specs.Tables.{TablesShape}
 use Rattle.c_tree.specs.State.{State, step, steps}
 use Rattle.c_tree.specs.Rulings.{by, rule}
-use Rattle.c_tree.specs.Sorts.{TypedNode, pos_in}
-use Rattle.c_tree.specs.Operators.{constant_rule}
+use Rattle.c_tree.specs.Sorts.{pos_in}
 use Rattle.c_tree.specs.Typing.{type_node}
-use Rattle.c_tree.specs.Declaring.{type_decls, opened_scope, closed_scope}
-use Rattle.c_tree.specs.Stating.{Surroundings, in_loop, in_switch, Labels, no_labels, tested, switched, type_maybe, type_test, type_result, type_marks, case_state, default_state, case_labels, default_labels, type_labels, TypedLabels, TypedBody, type_body, TypedItems, type_items, type_stmt, type_compound}
+use Rattle.c_tree.specs.Declaring.{type_decls, opened_scope}
+use Rattle.c_tree.specs.Stating.{Surroundings, in_loop, in_switch, Labels, no_labels, tested, switched, type_maybe, type_test, type_result, type_marks, type_labels, TypedBody, type_body, TypedItems, type_items, type_stmt, type_compound}
 use Rattle.c_walk.specs.declared.around.Around.{Around}
 use Rattle.c_walk.specs.declared.around.Taken.TheVariants.{Read}
 use Rattle.c_walk.specs.Items.{cases}
 use Rattle.c_walk.specs.Tests.{choosing, case_values}
 use Rattle.c_walk.specs.Walked.{Walked, with_block, with_block_if, with_decision, inside, pos_of}
-use Rattle.c_walk.specs.Walking.{walk_node, walk_test, walk_loop_test, walk_maybe, walk_maybe_test, walk_step}
+use Rattle.c_walk.specs.Walking.{walk_test, walk_loop_test, walk_maybe, walk_maybe_test, walk_step}
 use Rattle.c_walk.specs.Stating.{walk_decls, pos_of_stmt, splits, is_labelled, walk_choice, walk_stmt, walk_body, walk_part, walk_compound, walk_items}
-use Rattle.c_meaning.proofs.Walks.{node_on, test_node_on, maybe_on, loop_test_on, maybe_test_on, step_on, stmt_on, part_on, items_on}
-use Rattle.c_sites_probes.specs.Marked.{first, mark_among, node_mark, maybe_mark, decls_mark, labels_mark, stmt_mark, body_mark, compound_mark, items_mark}
+use Rattle.c_meaning.proofs.Walks.{node_on, loop_test_on, maybe_test_on, step_on, stmt_on, part_on, items_on}
+use Rattle.c_sites_probes.specs.Marked.{first, node_mark, maybe_mark, decls_mark, labels_mark, stmt_mark, body_mark, compound_mark, items_mark}
 use Rattle.probe_rules.specs.Fitting.{HasFewItems}
 use Rattle.probe_rules.specs.Marks.{block_marks}
-use Rattle.probe_rules.specs.ProbedExpressions.{probed_node, probed_test, probed_loop_test, probed_maybe, probed_maybe_test, probed_step, probed_choice}
+use Rattle.probe_rules.specs.ProbedExpressions.{probed_test, probed_loop_test, probed_maybe, probed_maybe_test, probed_step, probed_choice}
 use Rattle.probe_rules.specs.ProbedStatements.{probed_decls, probed_stmt, probed_body, probed_compound, probed_items}
 use Rattle.probe_rules.proofs.ReadyUnits.{none_first, none_second}
-use Rattle.probe_rules.proofs.Grows.{rule_grows, node_grows}
-use Rattle.probe_rules.proofs.GrowsUnits.{maybe_grows, test_grows, maybe_test_grows, case_grows, labels_grow, stmt_grows, items_grow}
-use Rattle.probe_rules.proofs.Moved.{Alike, steps_alike, demand_alike}
+use Rattle.probe_rules.proofs.Grows.{rule_grows}
+use Rattle.probe_rules.proofs.GrowsUnits.{maybe_grows, test_grows, maybe_test_grows, stmt_grows, items_grow}
+use Rattle.probe_rules.proofs.Moved.{steps_alike, demand_alike}
 use Rattle.probe_rules.proofs.Claims.{seen_at, block_claimed}
 use Rattle.probe_rules.proofs.Few.{few_before, few_blocks, few_decisions}
-use Rattle.probe_laws.proofs.Settled.{IsThere, IsClean}
+use Rattle.probe_laws.proofs.Settled.{IsClean}
 use Rattle.probe_laws.proofs.Rules.{back}
-use Rattle.probe_laws.proofs.Known.{Knows, Goes, entered_holds, stays, rule_goes}
+use Rattle.probe_laws.proofs.Known.{Knows, entered_holds, rule_goes}
 use Rattle.probe_laws.proofs.KnownNodes.{node_knows}
 use Rattle.probe_laws.proofs.FitDecls.{decls_fit}
 use Rattle.probe_laws.proofs.FitStatements.{stmt_fits}
 use Rattle.probe_moved.proofs.States.{further_alike, opened_scope_alike, closed_scope_alike}
 use Rattle.probe_moved.proofs.Statements.{AlikeLabels, labels_alike, switched_alike}
 use Rattle.probe_cases.proofs.Choice as choices
-use Rattle.probe_typed.specs.Typed.{Follows, MayBeTested, IsTypedAs, IsTypedNear, MaybeTypedAs}
+use Rattle.probe_typed.specs.Typed.{Follows, MayBeTested, IsTypedNear}
 use Rattle.probe_typed.proofs.Parts.{nodes_typed, tests_typed, loop_tests_typed, maybes_typed, maybe_tests_typed, steps_typed, results_typed, judged_alike, tested_so}
-use Rattle.probe_stated.specs.Stated.{AreDeclsTypedAs, IsStmtTypedAs, IsCompoundTypedAs, DeclsAreTypedAs}
+use Rattle.probe_stated.specs.Stated.{IsStmtTypedAs, IsCompoundTypedAs, DeclsAreTypedAs}
 use Rattle.probe_stated.proofs.Labels.{labels_again, labels_go}
 
 three : {A B C D : Type 0} (k : A → B → C → D) {a b : A} {c d : B} {e f : C} → a ≡ b → c ≡ d → e ≡ f → k a c e ≡ k b d f
