@@ -165,7 +165,8 @@ mutual
   items_written (more_items labels a rest) h = three more_items (labels_written labels h.0) (stmt_written a h.1) (items_written rest h.2)
 
 external_written : (e : ExternalShape) → ShapedExternal (bare_external e) → written_external e ≡ e
-external_written (defined specs d marks c) h = three (λ x y z. defined x y marks z) (some_written specs h.0) (declarator_written in_names d h.2) (compound_written c h.3)
+external_written (defined specs (declarator stars n (function ps) i) marks c) h = three (λ x y z. defined x y marks z) (some_written specs h.0) (declarator_written in_names (declarator stars n (function ps) i) h.2) (compound_written c h.3)
+external_written (defined specs (declarator stars n (arrays ls) i) marks c) h = absurd h.1
 external_written (declared d) h = ap declared (decl_written in_names d h)
 
 externals_written : (es : List ExternalShape) → ShapedExternals (map bare_external es) → map written_external es ≡ es
