@@ -38,7 +38,7 @@ IsFurther s t = t ≡ record s { at = t.at }
 pub record IsTyped (k : IntKind) (z : ℤ) (a : NodeShape) (s : State) (t : TypedNode) : Type 0 where
   pub node : t.node ≡ a
   pub kind : (j : IntKind) × (t.sort.kind ≡ Some (int j))
-  pub value : constants.value t.sort.constant ≡ Some z
+  pub value : wrapped k (constants.value t.sort.constant) ≡ Some z
   pub state : IsFurther s t.state
 
 -- what is written for a value of a type
@@ -106,7 +106,7 @@ HasDifferentCases f = Unit {0}
 -- a switch without probes, of which nothing is complained, has case constants that differ in the type that it chooses by
 abbrev pub CasesDiffer : Type 0
 CasesDiffer = (c : Surroundings) (p : Pos) (e : NodeShape) (items : ItemShapes) (s : State) → ShapedForm (switch e items) → KnowsNames s → let t = type_body c p (switch e items) s in
-    body_mark t.form ≡ None → s.complaints ≡ [] → HasDifferentCases t.form
+    body_mark t.form ≡ None → t.state.complaints ≡ [] → HasDifferentCases t.form
 
 -- ---- a select probe
 
@@ -123,7 +123,7 @@ begun w p s = steps 3 (claim test (decimal (next_decision w)) s.at p s)
 -- A select probe is typed as it stands, as an integer that is no constant, and the state behind it is one token behind that of its expression:
 -- where its number is claimed without complaint, its constants are different values of the promoted type, and its expression stands behind them.
 abbrev pub SelectsAreTyped : Type 0
-SelectsAreTyped = (j : IntKind) (zs : List ℤ) → AreInRange (promote j) zs → Unit {0} → (w : Walked) (b : NodeShape) (s : State) →
+SelectsAreTyped = (j : IntKind) (zs : List ℤ) → AreInRange (promote j) zs → AreDifferent zs → (w : Walked) (b : NodeShape) (s : State) →
     is_clean s (begun w (pos_of b) s) ≡ true → ((t : State) → IsFurther (begun w (pos_of b) s) t → Stands j b t) →
     let y = type_node (in_select zs w b) s in
     (y.node ≡ in_select zs w b) × (y.sort ≡ a_value (Some (int j)) No) × ((t : State) × IsFurther (begun w (pos_of b) s) t × (y.state ≡ step (type_node b t).state))

@@ -96,7 +96,7 @@ module _ (n m : ℕ) (seen : Seen) where
     inits_alike l l' (more_inits i rest) e none {s} {t} al =
         let x = type_init true (slot l) i (rule (slot_rule l) s.at (init_pos i) s) in
         let j = subst (λ z. AlikeInit x (type_init true (slot z) i (rule (slot_rule z) t.at (init_pos i) t))) (sym e)
-            (same_init true (slot l) i (none_first (init_mark i) (inits_mark rest) none) (rule_alike n m seen (slot_rule l) s.at t.at (init_pos i) (init_pos i) al)) in
+        (same_init true (slot l) i (none_first (init_mark i) (inits_mark rest) none) (rule_alike n m seen (slot_rule l) s.at t.at (init_pos i) (init_pos i) al)) in
         let k = inits_alike (further l) (further l') rest (ap further e) (none_second (init_mark i) (inits_mark rest) none) (steps_alike n m seen 1 j.state) in
         record { inits = ap₂ more_inits j.init k.inits; state = k.state }
 

@@ -13,7 +13,7 @@ use Rattle.c_type_rules.specs.Verdicts.{result_type}
 use Rattle.c_tree.specs.declared.meaning.Entity.{Entity}
 use Rattle.c_tree.specs.State.{State, step, steps, complain, mention, function_number}
 use Rattle.c_tables.specs.Rows.{first_place, text_of, name_pos}
-use Rattle.c_tree.specs.Rulings.{by, rule, kind_at, of_kind}
+use Rattle.c_tree.specs.Rulings.{Ruled, by, rule, kind_at, of_kind}
 use Rattle.c_tree.specs.Sorts.{pos_in}
 use Rattle.c_tree.specs.Operators.{claim, constant_rule, hushed, heard}
 use Rattle.c_tree.specs.Parts.{unspelled, spelled_rule, star_tokens, pointed}
@@ -148,6 +148,12 @@ pub closed_params_kept : (defining : Bool) (s : State) → Keeps s (closed_param
 closed_params_kept true s = refl
 closed_params_kept false s = refl
 
+-- behind the parentheses of a function
+judged_kept : (defining : Bool) (token : ℕ) (p : Pos) (x : Text) (r : Ruled) (f : Option Signature) (file : Bool) (s : State) → Keeps s (declare_function defining token p x f (record (rule r token p (closed_params defining s)) { file = file })).state
+judged_kept defining token p x r f file s =
+    let c = closed_params defining s in
+    closed_params_kept defining s ▸ rule_kept r token p c ▸ declared_kept defining token p x f (record (rule r token p c) { file = file })
+
 pub function_kept : (defining : Bool) (k : Option TypeOf) (stars : List Star) (x : Option Named) (ps : ParamsShape) (i : MaybeInit) (s : State) → Keeps s (type_function defining k stars x ps i s).state
 function_kept defining k stars x ps i s =
     let b = steps (star_tokens stars) s in
@@ -157,8 +163,7 @@ function_kept defining k stars x ps i s =
     let v = record (opened_scope (steps (name_tokens x) (claim_name false x b))) { file = false } in
     let q = type_params defining ps v in
     let f = signature_of (kind_at r) (all_kinds q.given) in
-    let c = closed_params defining q.state in
-    name_kept false x b ▸ params_kept defining ps v ▸ closed_params_kept defining q.state ▸ rule_kept r token p c ▸ declared_kept defining token p (text_of x) f (record (rule r token p c) { file = s.file })
+    name_kept false x b ▸ params_kept defining ps v ▸ judged_kept defining token p (text_of x) r f s.file q.state
 
 declarator_kept : (k : Option TypeOf) (d : DeclaratorShape) (s : State) → Keeps s (type_declarator k d s).state
 declarator_kept k (declarator stars x (arrays ls) i) s = variable_kept k stars x ls i s

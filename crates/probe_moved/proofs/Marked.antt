@@ -34,11 +34,11 @@ variable_state k stars y ls i s =
 
 module _ (n m : ℕ) (seen : Seen) where
   -- behind the name, in the second run with its probe, whose number was claimed and may stand there
-  pub name_marked : (may may' : Bool) (y : Named) (g : ProbeMark) → name_mark (Some y) ≡ None → may' ≡ true → {s t : State} → Alike n m seen s (claim def g.number t.at g.pos t) →
+  pub name_marked : (may may' : Bool) (y : Named) (g : ProbeMark) → name_mark (Some y) ≡ None → may' ≡ true → (s t : State) → Alike n m seen s (claim def g.number t.at g.pos t) →
       Alike n m seen (steps (name_tokens (Some y)) (claim_name may (Some y) s)) (steps (name_tokens (Some (marked g y))) (claim_name may' (Some (marked g y)) t))
-  name_marked may may' y g none e {s} {t} al =
+  name_marked may may' y g none e s t al =
       tokens_alike n m seen (name_tokens (Some y)) (name_tokens (Some (marked g y)))
-      (subst (λ z. Alike n m seen z (claim_name may' (Some (marked g y)) t)) (sym (unclaimed may (Some y) none s)) (met_alike n m seen may' 37 t.at g.pos e al))
+      (subst (λ z. Alike n m seen z (claim_name may' (Some (marked g y)) t)) (sym (unclaimed n m seen may (Some y) none s)) (met_alike n m seen may' 37 t.at g.pos e al))
 
   pub record AlikeVariable (k k' : Option TypeOf) (stars : List Star) (y : Named) (g : ProbeMark) (ls : LengthShapes) (i i' : MaybeInit) (s t : State) : Type 0 where
     pub lengths : (variable_lengths stars (Some (marked g y)) ls i' t).lengths ≡ (variable_lengths stars (Some y) ls i s).lengths
@@ -47,9 +47,9 @@ module _ (n m : ℕ) (seen : Seen) where
 
   -- a variable up to its initialisers, which give the same lengths
   pub variable_marked : (k k' : Option TypeOf) (stars : List Star) (y : Named) (g : ProbeMark) (ls : LengthShapes) (i i' : MaybeInit) → k' ≡ k → name_mark (Some y) ≡ None → lengths_mark ls ≡ None → ((cs : List Length) → lengths_with i' cs ≡ lengths_with i cs) →
-      {s t : State} → (nat_eq t.function 0 || has_init i') ≡ true → (let b = steps (star_tokens stars) t in Alike n m seen (steps (star_tokens stars) s) (claim def g.number b.at g.pos b)) → AlikeVariable k k' stars y g ls i i' s t
-  variable_marked k k' stars y g ls i i' e none none_long same {s} {t} may al =
-      let v = name_marked (nat_eq s.function 0 || has_init i) (nat_eq t.function 0 || has_init i') y g none may al in
+      (s t : State) → (nat_eq t.function 0 || has_init i') ≡ true → (let b = steps (star_tokens stars) t in Alike n m seen (steps (star_tokens stars) s) (claim def g.number b.at g.pos b)) → AlikeVariable k k' stars y g ls i i' s t
+  variable_marked k k' stars y g ls i i' e none none_long same s t may al =
+      let v = name_marked (nat_eq s.function 0 || has_init i) (nat_eq t.function 0 || has_init i') y g none may (steps (star_tokens stars) s) (steps (star_tokens stars) t) al in
       let l = lengths_alike n m seen ls none_long [] [] refl v in
       let counts = same (variable_lengths stars (Some (marked g y)) ls i' t).counts ∙ ap (lengths_with i) l.counts in
       let d = ap (pointed stars) e in
@@ -71,9 +71,9 @@ module _ (n m : ℕ) (seen : Seen) where
 
   -- a parameter of a definition, whose specifiers are the same type
   pub param_marked : (p : Pos) (specs : SpecShapes) (stars : List Star) (y : Named) (g : ProbeMark) (ls : LengthShapes) (i : MaybeInit) → name_mark (Some y) ≡ None → lengths_mark ls ≡ None →
-      {s t : State} → (type_specs false specs unspelled t).spelled ≡ (type_specs false specs unspelled s).spelled → (let b = behind_stars p specs stars t in Alike n m seen (behind_stars p specs stars s) (claim def g.number b.at g.pos b)) → AlikeParameter p specs stars y g ls i s t
-  param_marked p specs stars y g ls i none none_long {s} {t} e al =
-      let l = lengths_alike n m seen ls none_long [] [] refl (name_marked n m seen true true y g none refl al) in
+      (s t : State) → (type_specs false specs unspelled t).spelled ≡ (type_specs false specs unspelled s).spelled → (let b = behind_stars p specs stars t in Alike n m seen (behind_stars p specs stars s) (claim def g.number b.at g.pos b)) → AlikeParameter p specs stars y g ls i s t
+  param_marked p specs stars y g ls i none none_long s t e al =
+      let l = lengths_alike n m seen ls none_long [] [] refl (name_marked n m seen true true y g none refl (behind_stars p specs stars s) (behind_stars p specs stars t) al) in
       let k = ap (λ z. pointed stars (kind_at (spelled_rule z))) e in
       record {
         lengths = l.lengths;

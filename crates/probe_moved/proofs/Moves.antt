@@ -45,12 +45,12 @@ pub marked_variables : MarkedVariables
 marked_variables k stars y g ls i s seen none may e =
     let n = length s.complaints in
     let rest = none_second (name_mark (Some y)) (first (lengths_mark ls) (maybe_init_mark i)) none in
-    let v = variable_marked n n seen k k stars y g ls i i refl (none_first (name_mark (Some y)) (first (lengths_mark ls) (maybe_init_mark i)) none) (none_first (lengths_mark ls) (maybe_init_mark i) rest) (λ cs. refl) {s} {s} may (claims_alike g seen (steps (star_tokens stars) s) e) in
+    let v = variable_marked n n seen k k stars y g ls i i refl (none_first (name_mark (Some y)) (first (lengths_mark ls) (maybe_init_mark i)) none) (none_first (lengths_mark ls) (maybe_init_mark i) rest) (λ cs. refl) s s may (claims_alike g seen (steps (star_tokens stars) s) e) in
     let j = maybe_init_alike n n seen (nat_eq s.function 0) (nat_eq s.function 0) _ _ i refl v.kind (none_second (lengths_mark ls) (maybe_init_mark i) rest) v.state in
     record { name = ap₂ (λ l z. declarator stars (Some (marked g y)) (arrays l) z) v.lengths j.init; state = moves_claimed s seen _ _ j.state }
 
 pub marked_parameters : MarkedParameters
 marked_parameters p specs stars y g ls i s seen none none_long e =
     let b = behind_stars p specs stars s in
-    let v = param_marked (length b.complaints) (length b.complaints) seen p specs stars y g ls i none none_long {s} {s} refl (claims_alike g seen b e) in
+    let v = param_marked (length b.complaints) (length b.complaints) seen p specs stars y g ls i none none_long s s refl (claims_alike g seen b e) in
     record { kind = v.kind; state = moves_claimed b seen _ _ v.state }

@@ -28,6 +28,20 @@ use Rattle.c_sites_probes.specs.Marked.{mark_in, name_mark}
 use Rattle.probe_rules.proofs.ReadyUnits.{some_none}
 use Rattle.probe_rules.proofs.Moved.{moved, Alike, Counts, moves, on_moved, steps_alike, complain_alike, demand_alike, rule_alike, ruled_alike, outside_alike}
 
+-- a variable and a parameter, behind their lengths, and a function, behind its parentheses
+abbrev pub judged_variable : ℕ → Pos → Text → List Length → Option TypeOf → State → State
+judged_variable token p x cs k s = let r = variable_rule s.rooms cs k in declare_variable token p x (kind_at r) (rule r token p s)
+
+abbrev pub judged_parameter : Bool → Pos → Option Named → ℕ → ℕ → List Length → Option TypeOf → State → State
+judged_parameter defining p x head token cs k s =
+    let r = parameter_rule s.rooms cs k in
+    declare_parameter token x (kind_at r) (rule r token (name_pos p x) (name_demand defining x head p s))
+
+abbrev pub judged_function : Bool → ℕ → Pos → Text → Option TypeOf → List (Text × Option TypeOf) → Bool → State → Numbered
+judged_function defining token p x k given file s =
+    let r = by 33 (result_type k) in
+    declare_function defining token p x (signature_of (kind_at r) (all_kinds given)) (outside file (rule r token p s))
+
 module _ (n m : ℕ) (seen : Seen) where
   -- ---- what is the same in both states
 
@@ -114,9 +128,6 @@ module _ (n m : ℕ) (seen : Seen) where
   pub variable_rule_same : (cs cs' : List Length) (k k' : Option TypeOf) → cs' ≡ cs → k' ≡ k → {s t : State} → Alike n m seen s t → variable_rule t.rooms cs' k' ≡ variable_rule s.rooms cs k
   variable_rule_same cs cs' k k' e d {s} {t} al = ap (λ z. variable_rule z cs' k') (rooms_same al) ∙ ap₂ (variable_rule s.rooms) e d
 
-  abbrev pub judged_variable : ℕ → Pos → Text → List Length → Option TypeOf → State → State
-  judged_variable token p x cs k s = let r = variable_rule s.rooms cs k in declare_variable token p x (kind_at r) (rule r token p s)
-
   -- a variable, behind its lengths
   pub judged_variable_alike : (token token' : ℕ) (p : Pos) (x : Text) (cs cs' : List Length) (k k' : Option TypeOf) → cs' ≡ cs → k' ≡ k → {s t : State} → Alike n m seen s t →
       Alike n m seen (judged_variable token p x cs k s) (judged_variable token' p x cs' k' t)
@@ -150,11 +161,6 @@ module _ (n m : ℕ) (seen : Seen) where
 
   pub parameter_rule_same : (cs cs' : List Length) (k k' : Option TypeOf) → cs' ≡ cs → k' ≡ k → {s t : State} → Alike n m seen s t → parameter_rule t.rooms cs' k' ≡ parameter_rule s.rooms cs k
   parameter_rule_same cs cs' k k' e d {s} {t} al = ap (λ z. parameter_rule z cs' k') (rooms_same al) ∙ ap₂ (parameter_rule s.rooms) e d
-
-  abbrev pub judged_parameter : Bool → Pos → Option Named → ℕ → ℕ → List Length → Option TypeOf → State → State
-  judged_parameter defining p x head token cs k s =
-      let r = parameter_rule s.rooms cs k in
-      declare_parameter token x (kind_at r) (rule r token (name_pos p x) (name_demand defining x head p s))
 
   -- a parameter, behind its lengths
   pub judged_parameter_alike : (defining : Bool) (p : Pos) (x : Option Named) (head head' token token' : ℕ) (cs cs' : List Length) (k k' : Option TypeOf) → cs' ≡ cs → k' ≡ k → {s t : State} → Alike n m seen s t →
@@ -233,11 +239,6 @@ module _ (n m : ℕ) (seen : Seen) where
 
   pub declare_function_alike : (defining : Bool) (token token' : ℕ) (p : Pos) (x : Text) (f f' : Option Signature) → f' ≡ f → {s t : State} → Alike n m seen s t → AlikeNumbered (declare_function defining token p x f s) (declare_function defining token' p x f' t)
   declare_function_alike defining token token' p x f f' e {s} {t} al = subst (λ z. AlikeNumbered (declare_function defining token p x f s) (declare_function defining token' p x z t)) (sym e) (signature_alike defining token token' p x f al)
-
-  abbrev pub judged_function : Bool → ℕ → Pos → Text → Option TypeOf → List (Text × Option TypeOf) → Bool → State → Numbered
-  judged_function defining token p x k given file s =
-      let r = by 33 (result_type k) in
-      declare_function defining token p x (signature_of (kind_at r) (all_kinds given)) (outside file (rule r token p s))
 
   -- a function, behind its parentheses
   pub judged_function_alike : (defining : Bool) (token token' : ℕ) (p : Pos) (x : Text) (k k' : Option TypeOf) (given given' : List (Text × Option TypeOf)) (file file' : Bool) → k' ≡ k → given' ≡ given → file' ≡ file → {s t : State} → Alike n m seen s t →

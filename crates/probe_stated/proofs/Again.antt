@@ -1,6 +1,5 @@
 -- Functions that are declared, and variables without an initialiser, are typed again as they were.
-use Rattle.std.proofs.Common.{◌≡◌, ℕ, List, [], Option, false, refl, ap}
-use Rattle.std.specs.Prelude.{nat_eq}
+use Rattle.std.proofs.Common.{◌≡◌, List, [], Bool, false, Option, refl, ap}
 use Rattle.c_base.specs.declared.place.Pos.{Pos}
 use Rattle.c_syntax.specs.declared.tree.Named.{Named}
 use Rattle.c_syntax.specs.declared.tree.Star.{Star}

@@ -2,7 +2,7 @@
 use Rattle.std.proofs.Common.{◌≡◌, ℕ, ℤ, List, [], ◌∷◌, false, Option, Some, None, ◌∙◌, refl, ap}
 use Rattle.std.specs.Prelude.{not}
 use Rattle.c_base.specs.declared.place.Pos.{Pos}
-use Rattle.c_syntax.specs.Shape.{NodeShape, LabelShape, case, default}
+use Rattle.c_syntax.specs.Shape.{LabelShape, case, default}
 use Rattle.c_syntax.specs.Shaped.{ShapedLabels}
 use Rattle.c_constants.specs.Constants as constants
 use Rattle.c_tree.specs.State.{State, step, steps}

@@ -1,3 +1,5 @@
 mod Labels
+pub mod Again
+mod Locals
 mod Statements
-pub mod Trial
+pub mod Bodies

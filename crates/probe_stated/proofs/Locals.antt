@@ -8,53 +8,53 @@ use Rattle.c_syntax.specs.declared.tree.Named.{Named}
 use Rattle.c_syntax.specs.declared.tree.ProbeMark.{ProbeMark}
 use Rattle.c_syntax.specs.declared.tree.Star.{Star}
 use Rattle.c_syntax.specs.declared.tree.UnaryOp.TheVariants as front
-use Rattle.c_syntax.specs.Shape.{TypeOf, int, number, char, str, name, unary, before, size_of, plain, and, or, assign, comma, Prefix, Infix, NodeShape, node, ExprShape, leaf, paren, call, prefix, size_of_type, cast, suffix, two, choose, probe, index, field, behind, simple, select, def, SuffixShape, ProbeShape, NodeShapes, TypeShape, SpecShapes, no_specs, NoteShape, LengthShapes, DeclShape, decl, DeclShapes, no_decls, more_decls, DeclaratorShape, declarator, DeclaratorShapes, no_declarators, more_declarators, arrays, function, ParamsShape, MaybeInit, no_init, one_init, InitShape, one, listed, InitShapes}
-use Rattle.c_syntax.specs.Shaped.{in_names, name_fits, Shaped, ShapedLengths, ShapedInitOf, ShapedDecls, ShapedDecl, ShapedDeclarators, ShapedDeclarator}
+use Rattle.c_syntax.specs.Shape.{TypeOf, int, number, char, str, name, unary, before, size_of, plain, and, or, assign, comma, Prefix, Infix, NodeShape, node, ExprShape, leaf, paren, call, prefix, size_of_type, cast, suffix, two, choose, probe, index, field, behind, simple, select, def, SuffixShape, ProbeShape, NodeShapes, TypeShape, SpecShapes, no_specs, NoteShape, LengthShapes, DeclShape, decl, no_decls, more_decls, DeclaratorShape, declarator, DeclaratorShapes, no_declarators, more_declarators, arrays, function, MaybeInit, no_init, one_init, InitShape, one, listed, InitShapes}
+use Rattle.c_syntax.specs.Shaped.{in_names, Shaped, ShapedLengths, ShapedDecl, ShapedDeclarators, ShapedDeclarator}
 use Rattle.c_tables.specs.Tables.{TablesShape}
 use Rattle.c_tables.specs.Rows.{first_place, text_of, name_pos}
 use Rattle.c_scopes.specs.Scoping.{find_here}
 use Rattle.c_tree.specs.State.{State, step, steps}
 use Rattle.c_tree.specs.Rulings.{rule, kind_at, allowed_if}
-use Rattle.c_tree.specs.Sorts.{Sort, TypedNode, pos_in}
+use Rattle.c_tree.specs.Sorts.{pos_in}
 use Rattle.c_tree.specs.Operators.{claim, hushed, heard}
 use Rattle.c_tree.specs.Parts.{Length, left_out, counted, unclear, TypedLengths, pointed, star_tokens, unspelled, spelled_rule}
-use Rattle.c_tree.specs.Typing.{type_node, type_form, type_specs, type_lengths}
+use Rattle.c_tree.specs.Typing.{type_node, type_specs, type_lengths}
 use Rattle.c_tree.specs.Initialisers.{length_in, length_in_form, lengths_with, form_in, filled, chars_of, one_init_of, constant_init, fits, TypedInit, type_init}
-use Rattle.c_tree.specs.Declaring.{name_tokens, claim_name, token_of_name, declare_variable, variable_rule, has_init, TypedMaybeInit, type_maybe_init, TypedDeclarator, type_variable, type_function, type_declarator, TypedDeclarators, type_declarators, none_declared, semicolon, type_decl, TypedDecl, type_decls, plain_declarator}
+use Rattle.c_tree.specs.Declaring.{name_tokens, claim_name, token_of_name, declare_variable, variable_rule, has_init, type_maybe_init, TypedDeclarator, type_variable, type_declarator, TypedDeclarators, type_declarators, none_declared, semicolon, type_decl, TypedDecl, type_decls, plain_declarator}
 use Rattle.c_tree.proofs.Again.{lengths_again, specs_again}
 use Rattle.c_tree.proofs.AgainUnits.{length_again, init_again}
 use Rattle.c_walk.specs.declared.around.Around.{Around}
 use Rattle.c_walk.specs.declared.around.Taken.TheVariants.{Read}
-use Rattle.c_walk.specs.Places.{is_place, has_scalar}
-use Rattle.c_walk.specs.Walked.{Walked, with_site, with_item}
+use Rattle.c_walk.specs.Walked.{Walked}
 use Rattle.c_walk.specs.Walking.{walk_node}
-use Rattle.c_walk.specs.Stating.{whole, with_variable, with_whole_def, walk_declarator, walk_declarators, walk_decl, walk_decls}
+use Rattle.c_walk.specs.Stating.{whole, with_variable, with_whole_def, walk_declarator, walk_declarators, walk_decl}
 use Rattle.c_meaning.specs.Counts.{IsBefore}
 use Rattle.c_meaning.proofs.Walks.{node_on, decl_on, decls_on}
-use Rattle.c_sites_probes.specs.Marked.{first, name_mark, node_mark, lengths_mark, specs_mark, declarator_mark, declarators_mark, decl_mark, decls_mark, maybe_init_mark, init_mark, params_mark}
+use Rattle.c_sites_probes.specs.Marked.{first, name_mark, node_mark, lengths_mark, specs_mark, declarator_mark, declarators_mark, decl_mark, decls_mark, maybe_init_mark, init_mark}
 use Rattle.probe_rules.specs.Fitting.{HasFewItems}
-use Rattle.probe_rules.specs.Marks.{mark_at, in_use, defined_name}
+use Rattle.probe_rules.specs.Marks.{mark_at, in_use}
 use Rattle.c_walk.specs.Counted.{next_def}
-use Rattle.probe_rules.specs.ProbedExpressions.{probed_node, probed_form}
-use Rattle.probe_rules.specs.ProbedStatements.{probed_declarator, probed_declarators, probed_decl, probed_decls}
+use Rattle.probe_rules.specs.ProbedExpressions.{probed_node}
+use Rattle.probe_rules.specs.ProbedStatements.{probed_declarator, probed_declarators, probed_decl}
 use Rattle.probe_rules.proofs.ReadyUnits.{none_first, none_second}
-use Rattle.probe_rules.proofs.Grows.{rule_grows, lengths_grow}
+use Rattle.probe_rules.proofs.Grows.{rule_grows}
 use Rattle.probe_rules.proofs.GrowsUnits.{maybe_init_grows, variable_at_grows, declarators_grow, decls_grow}
 use Rattle.probe_rules.proofs.Moved.{AlikeSpecs, steps_alike, rule_alike, ruled_alike, quiet_alike, specs_alike}
 use Rattle.probe_rules.proofs.Claims.{seen_at, def_claimed}
 use Rattle.probe_rules.proofs.Few.{few_before, few_defs}
 use Rattle.probe_laws.proofs.Settled.{IsThere, IsClean, type_there}
 use Rattle.probe_laws.proofs.Rules.{back}
-use Rattle.probe_laws.proofs.Known.{Knows, Goes, rule_goes}
+use Rattle.probe_laws.proofs.Known.{Knows, rule_goes}
 use Rattle.probe_laws.proofs.KnownParts.{pointed_there, spelled_settled}
 use Rattle.probe_laws.proofs.KnownNodes.{lengths_know, specs_know, all_specs, decl_parts}
-use Rattle.probe_laws.proofs.FitDecls.{name_goes, declarator_fits, variable_at_goes, with_clear, variable_settled, decl_fits, decls_fit}
+use Rattle.probe_laws.proofs.FitDecls.{name_goes, declarator_fits, variable_at_goes, with_clear, variable_settled, decl_fits}
 use Rattle.probe_moved.proofs.States.{function_same, quiet_same, judged_variable}
 use Rattle.probe_moved.proofs.Decls as plain_ones
-use Rattle.probe_moved.proofs.Marked.{marked, variable_lengths, variable_kind, variable_state, AlikeVariable, variable_marked}
-use Rattle.probe_typed.specs.Typed.{Follows, IsTypedAs}
+use Rattle.probe_moved.specs.Moved.{marked}
+use Rattle.probe_moved.proofs.Marked.{variable_lengths, variable_kind, variable_state, AlikeVariable, variable_marked}
+use Rattle.probe_typed.specs.Typed.{Follows}
 use Rattle.probe_typed.proofs.Parts.{nodes_typed}
-use Rattle.probe_stated.specs.Stated.{AreDeclsTypedAs, DeclsAreTypedAs}
+use Rattle.probe_stated.specs.Stated.{DeclsAreTypedAs}
 use Rattle.probe_stated.proofs.Again.{function_again}
 
 three : {A B C D : Type 0} (k : A → B → C → D) {a b : A} {c d : B} {e f : C} → a ≡ b → c ≡ d → e ≡ f → k a c e ≡ k b d f
@@ -250,7 +250,7 @@ module _ (tables : TablesShape) (c : Around) (k k' : Option TypeOf) (stars : Lis
       let v = steps (name_tokens (Some y)) (claim_name (nat_eq s.function 0 || true) (Some y) (steps (star_tokens stars) s)) in
       let l = type_lengths [] ls v in
       let again : type_lengths [] l.lengths v ≡ l = lengths_again [] [] ls v v in
-      let r : AlikeVariable 0 0 (seen_at behind_name) k k' stars y mark l.lengths (one_init i) (one_init i') s t = variable_marked 0 0 (seen_at behind_name) k k' stars y mark l.lengths (one_init i) (one_init i') e none long (λ cs. same_first i i' cs same) (or_true (nat_eq t.function 0)) (claimed few al) in
+      let r : AlikeVariable 0 0 (seen_at behind_name) k k' stars y mark l.lengths (one_init i) (one_init i') s t = variable_marked 0 0 (seen_at behind_name) k k' stars y mark l.lengths (one_init i) (one_init i') e none long (λ cs. same_first i i' cs same) s t (or_true (nat_eq t.function 0)) (claimed few al) in
       let begun = steps (star_tokens stars) s in
       record {
         lengths = r.lengths ∙ ap (λ (z : TypedLengths). z.lengths) again;
@@ -304,7 +304,7 @@ module _ (tables : TablesShape) (c : Around) (k k' : Option TypeOf) (stars : Lis
       let declared = back (maybe_init_grows (nat_eq s.function 0) q i d) clean in
       let done = (one_typed c q a behind_name (step d) (step d') is m (known i its there h declared) (steps_alike 0 0 (seen_at behind_name) 1 r.state) o (nat_eq s.function 0)).1 clean few in
       let same : one_init_of (filled (chars_of q') (form_in b)) (nat_eq t.function 0) q' b (step d') ≡ one_init_of o (nat_eq s.function 0) q b (step d') =
-          three (λ x z g. one_init_of x z g b (step d')) (ap (λ g. filled (chars_of g) (form_in b)) r.kind ∙ filled_probed c (chars_of q) o a (step d) behind_name) (ap (λ f. nat_eq f 0) (function_same 0 0 (seen_at w) al)) r.kind in
+      three (λ x z g. one_init_of x z g b (step d')) (ap (λ g. filled (chars_of g) (form_in b)) r.kind ∙ filled_probed c (chars_of q) o a (step d) behind_name) (ap (λ f. nat_eq f 0) (function_same 0 0 (seen_at w) al)) r.kind in
       record {
         name = ap₂ (λ x z. declarator stars (Some (marked mark y)) (arrays x) (one_init z)) r.lengths (ap (λ (z : TypedInit). z.init) same ∙ done.init);
         state = subst (λ (z : TypedInit). Follows (walk_node c Read n behind_name) (one_init_of o (nat_eq s.function 0) q a (step d)).state z.state) (sym same) done.state;
@@ -437,7 +437,7 @@ decl_typed tables c (decl p specs names) w s t is m h n clean few al =
     let r' = ap spelled_rule i.spelled in
     let z = type_specs none x.specs unspelled t in
     let j = declarators_typed tables c (kind_at r) (kind_at (spelled_rule z.spelled)) names w (steps end u) (steps end (rule (spelled_rule z.spelled) t.at p z.state)) (ap kind_at r') parts.1 (none_second (specs_mark specs) (declarators_mark names) m) spelled two.0 (none_second (specs_mark x.specs) (declarators_mark y.names) n) clean few
-        (steps_alike 0 0 (seen_at w) end (ruled_alike 0 0 (seen_at w) _ _ s.at t.at p r' i.state)) in
+    (steps_alike 0 0 (seen_at w) end (ruled_alike 0 0 (seen_at w) _ _ s.at t.at p r' i.state)) in
     let same = none_probed tables c (kind_at r) names (steps end u) w in
     let whole_same : type_decl (decl p x.specs ps) t ≡ decl_with p none end x.specs ps t = ap₂ (λ b k. decl_with p b k x.specs ps t) same.0 same.1 in
     record {

@@ -1,50 +1,48 @@
 -- Statements with their probes are typed as they stand, where local declarations are.
-use Rattle.std.proofs.Common.{◌≡◌, ℕ, ℤ, List, [], ◌∷◌, length, Bool, true, false, Option, Some, None, ◌∙◌, refl, sym, ap, ap₂, subst}
+use Rattle.std.proofs.Common.{◌≡◌, ℕ, List, [], ◌∷◌, length, Bool, true, false, Option, Some, None, ◌∙◌, refl, ap, ap₂, subst}
 use Rattle.std.specs.Prelude.{◌||◌}
 use Rattle.c_base.specs.declared.place.Pos.{Pos}
-use Rattle.c_syntax.specs.Shape.{NodeShape, MaybeNode, no_node, one_node, LabelShape, case, default, StmtShape, stmt, FormShape, compound, simply, when, either, while, do_while, for, switch, break, continue, return, CompoundShape, braces, ItemShapes, no_items, more_items}
-use Rattle.c_syntax.specs.Shaped.{Shaped, ShapedMaybe, ShapedLabels, ShapedStmt, ShapedForm, ShapedCompound, ShapedItems}
+use Rattle.c_syntax.specs.Shape.{NodeShape, MaybeNode, no_node, one_node, LabelShape, StmtShape, stmt, FormShape, compound, simply, when, either, while, do_while, for, switch, break, continue, return, CompoundShape, braces, ItemShapes, no_items, more_items}
+use Rattle.c_syntax.specs.Shaped.{Shaped, ShapedMaybe, ShapedStmt, ShapedForm, ShapedCompound, ShapedItems}
 use Rattle.c_type_rules.specs.Verdicts.{truth_type, promoted_type}
-use Rattle.c_constants.specs.Constants as constants
 use Rattle.c_tables.specs.Tables.{TablesShape}
 use Rattle.c_tree.specs.State.{State, step, steps}
 use Rattle.c_tree.specs.Rulings.{by, rule}
-use Rattle.c_tree.specs.Sorts.{TypedNode, pos_in}
-use Rattle.c_tree.specs.Operators.{constant_rule}
+use Rattle.c_tree.specs.Sorts.{pos_in}
 use Rattle.c_tree.specs.Typing.{type_node}
-use Rattle.c_tree.specs.Declaring.{type_decls, opened_scope, closed_scope}
-use Rattle.c_tree.specs.Stating.{Surroundings, in_loop, in_switch, Labels, no_labels, tested, switched, type_maybe, type_test, type_result, type_marks, case_state, default_state, case_labels, default_labels, type_labels, TypedLabels, TypedBody, type_body, TypedItems, type_items, type_stmt, type_compound}
+use Rattle.c_tree.specs.Declaring.{type_decls, opened_scope}
+use Rattle.c_tree.specs.Stating.{Surroundings, in_loop, in_switch, Labels, no_labels, tested, switched, type_maybe, type_test, type_result, type_marks, type_labels, TypedBody, type_body, TypedItems, type_items, type_stmt, type_compound}
 use Rattle.c_walk.specs.declared.around.Around.{Around}
 use Rattle.c_walk.specs.declared.around.Taken.TheVariants.{Read}
 use Rattle.c_walk.specs.Items.{cases}
 use Rattle.c_walk.specs.Tests.{choosing, case_values}
 use Rattle.c_walk.specs.Walked.{Walked, with_block, with_block_if, with_decision, inside, pos_of}
-use Rattle.c_walk.specs.Walking.{walk_node, walk_test, walk_loop_test, walk_maybe, walk_maybe_test, walk_step}
+use Rattle.c_walk.specs.Walking.{walk_test, walk_loop_test, walk_maybe, walk_maybe_test, walk_step}
 use Rattle.c_walk.specs.Stating.{walk_decls, pos_of_stmt, splits, is_labelled, walk_choice, walk_stmt, walk_body, walk_part, walk_compound, walk_items}
-use Rattle.c_meaning.proofs.Walks.{node_on, test_node_on, maybe_on, loop_test_on, maybe_test_on, step_on, stmt_on, part_on, items_on}
-use Rattle.c_sites_probes.specs.Marked.{first, mark_among, node_mark, maybe_mark, decls_mark, labels_mark, stmt_mark, body_mark, compound_mark, items_mark}
+use Rattle.c_meaning.proofs.Walks.{node_on, loop_test_on, maybe_test_on, step_on, stmt_on, part_on, items_on}
+use Rattle.c_sites_probes.specs.Marked.{first, node_mark, maybe_mark, decls_mark, labels_mark, stmt_mark, body_mark, compound_mark, items_mark}
 use Rattle.probe_rules.specs.Fitting.{HasFewItems}
 use Rattle.probe_rules.specs.Marks.{block_marks}
-use Rattle.probe_rules.specs.ProbedExpressions.{probed_node, probed_test, probed_loop_test, probed_maybe, probed_maybe_test, probed_step, probed_choice}
+use Rattle.probe_rules.specs.ProbedExpressions.{probed_test, probed_loop_test, probed_maybe, probed_maybe_test, probed_step, probed_choice}
 use Rattle.probe_rules.specs.ProbedStatements.{probed_decls, probed_stmt, probed_body, probed_compound, probed_items}
 use Rattle.probe_rules.proofs.ReadyUnits.{none_first, none_second}
-use Rattle.probe_rules.proofs.Grows.{rule_grows, node_grows}
-use Rattle.probe_rules.proofs.GrowsUnits.{maybe_grows, test_grows, maybe_test_grows, case_grows, labels_grow, stmt_grows, items_grow}
-use Rattle.probe_rules.proofs.Moved.{Alike, steps_alike, demand_alike}
+use Rattle.probe_rules.proofs.Grows.{rule_grows}
+use Rattle.probe_rules.proofs.GrowsUnits.{maybe_grows, test_grows, maybe_test_grows, stmt_grows, items_grow}
+use Rattle.probe_rules.proofs.Moved.{steps_alike, demand_alike}
 use Rattle.probe_rules.proofs.Claims.{seen_at, block_claimed}
 use Rattle.probe_rules.proofs.Few.{few_before, few_blocks, few_decisions}
-use Rattle.probe_laws.proofs.Settled.{IsThere, IsClean}
+use Rattle.probe_laws.proofs.Settled.{IsClean}
 use Rattle.probe_laws.proofs.Rules.{back}
-use Rattle.probe_laws.proofs.Known.{Knows, Goes, entered_holds, stays, rule_goes}
+use Rattle.probe_laws.proofs.Known.{Knows, entered_holds, rule_goes}
 use Rattle.probe_laws.proofs.KnownNodes.{node_knows}
 use Rattle.probe_laws.proofs.FitDecls.{decls_fit}
 use Rattle.probe_laws.proofs.FitStatements.{stmt_fits}
 use Rattle.probe_moved.proofs.States.{further_alike, opened_scope_alike, closed_scope_alike}
 use Rattle.probe_moved.proofs.Statements.{AlikeLabels, labels_alike, switched_alike}
 use Rattle.probe_cases.proofs.Choice as choices
-use Rattle.probe_typed.specs.Typed.{Follows, MayBeTested, IsTypedAs, IsTypedNear, MaybeTypedAs}
+use Rattle.probe_typed.specs.Typed.{Follows, MayBeTested, IsTypedNear}
 use Rattle.probe_typed.proofs.Parts.{nodes_typed, tests_typed, loop_tests_typed, maybes_typed, maybe_tests_typed, steps_typed, results_typed, judged_alike, tested_so}
-use Rattle.probe_stated.specs.Stated.{AreDeclsTypedAs, IsStmtTypedAs, IsCompoundTypedAs, DeclsAreTypedAs}
+use Rattle.probe_stated.specs.Stated.{IsStmtTypedAs, IsCompoundTypedAs, DeclsAreTypedAs}
 use Rattle.probe_stated.proofs.Labels.{labels_again, labels_go}
 
 three : {A B C D : Type 0} (k : A → B → C → D) {a b : A} {c d : B} {e f : C} → a ≡ b → c ≡ d → e ≡ f → k a c e ≡ k b d f
@@ -83,12 +81,6 @@ maybe_test_known no_node s is h c = h
 maybe_test_known (one_node a) s is h c = test_known s.at a s is.1 h c
 
 -- ---- blocks
-
-part_is : (tables : TablesShape) (c : Around) (a : StmtShape) (w : Walked) → walk_part tables c a w ≡ walk_stmt tables c a (with_block (pos_of_stmt a) w)
-part_is tables c (stmt p ms q f) w = refl
-
-place_same : (e : Surroundings) (a : StmtShape) (s : State) → pos_of_stmt (type_stmt e a s).stmt ≡ pos_of_stmt a
-place_same e (stmt p ms q f) s = refl
 
 -- in front of a statement that is a block its number is claimed
 marked : (b : Bool) (p : Pos) (w : Walked) {s t : State} → HasFewItems (with_block_if b p w) → Follows w s t → Follows (with_block_if b p w) s (type_marks (block_marks b p w) t)
@@ -135,12 +127,13 @@ module _ (tables : TablesShape) (declared : DeclsAreTypedAs) where
         let p = probed_stmt tables c true x.stmt w in
         let v = walk_part tables c x.stmt w in
         stmt_mark x.stmt ≡ None → IsClean x.state → HasFewItems v → Follows w s t → IsStmtTypedAs v x p (type_stmt e p t))
-    part_typed c e a w s t is m h n clean few al =
-        let x = type_stmt e a s in
-        let p = probed_stmt tables c true x.stmt w in
-        let v = walk_stmt tables c x.stmt (with_block (pos_of_stmt x.stmt) w) in
-        let same = part_is tables c x.stmt w in
-        subst (λ z. IsStmtTypedAs z x p (type_stmt e p t)) (sym same) (stmt_typed c e true a w s t is m h n clean (subst HasFewItems same few) al)
+    part_typed c e (stmt p (g ∷ gs) q f) w s t is m h n clean few al = absurd (cc)
+    part_typed c e (stmt p [] q f) w s t is m h n clean few al =
+        let x = type_body e q f s in
+        let v = with_block p w in
+        let few_v : HasFewItems v = few_before (stmt_on tables c (stmt p [] q x.form) v) few in
+        let i = body_typed c e q f v s (type_marks (block_marks true p w) t) is m h n clean few (marked true p w few_v al) in
+        record { stmt = ap (stmt p (block_marks true p w) q) i.form; state = i.state }
 
     body_typed : (c : Around) (e : Surroundings) (p : Pos) (f : FormShape) (w : Walked) (s t : State) → ShapedForm f → body_mark f ≡ None → Knows false s → (
         let x = type_body e p f s in
@@ -243,20 +236,7 @@ module _ (tables : TablesShape) (declared : DeclsAreTypedAs) where
         let known'' = maybe_known f (step y.state) is.2 known' stepped in
         let four = part_typed c (in_loop e) g v'' (step z.state) (step z'.state) is.3 (none_second (maybe_mark f) (stmt_mark g) m2) known'' (none_second (maybe_mark z.node) (stmt_mark b.stmt) n2) clean few (steps_alike 0 0 (seen_at v'') 1 there.state) in
         record { form = three (λ i j k. for i j k (type_stmt (in_loop e) (probed_stmt tables c true b.stmt v'') (step z'.state)).stmt) one.node two.node there.node ∙ ap (for (probed_maybe c x.node w) (probed_maybe_test c y.node v) (probed_step c z.node v')) four.stmt; state = four.state }
-    body_typed c e p (switch a items) w s t is m h n clean few al = switch_typed c e p a items w s t is m h n clean few al
-    body_typed c e p break w s t is m h n clean few al = record { form = refl; state = steps_alike 0 0 (seen_at w) 2 (demand_alike 0 0 (seen_at w) e.breakable 37 s.at t.at p al) }
-    body_typed c e p continue w s t is m h n clean few al = record { form = refl; state = steps_alike 0 0 (seen_at w) 2 (demand_alike 0 0 (seen_at w) e.loop 37 s.at t.at p al) }
-    body_typed c e p (return a) w s t is m h n clean few al =
-        let x = type_result s.at p e.result a (step s) in
-        let i = results_typed false c s.at t.at p e.result 0 a w (step s) (step t) is m h clean few (steps_alike 0 0 (seen_at w) 1 al) in
-        record { form = ap return i.node; state = steps_alike 0 0 (seen_at (walk_maybe c x.node w)) 1 i.state }
-
-    switch_typed : (c : Around) (e : Surroundings) (p : Pos) (a : NodeShape) (items : ItemShapes) (w : Walked) (s t : State) → ShapedForm (switch a items) → body_mark (switch a items) ≡ None → Knows false s → (
-        let x = type_body e p (switch a items) s in
-        let g = probed_body tables c x.form w in
-        let v = walk_body tables c x.form w in
-        body_mark x.form ≡ None → IsClean x.state → HasFewItems v → Follows w s t → IsFormTypedAs v x g (type_body e p g t))
-    switch_typed c e p a items w s t is m h n clean few al =
+    body_typed c e p (switch a items) w s t is m h n clean few al =
         let x = type_node a (steps 2 s) in
         let r = switched x in
         let u = rule r (steps 2 s).at (pos_in x.node) x.state in
@@ -280,6 +260,12 @@ module _ (tables : TablesShape) (declared : DeclsAreTypedAs) where
         let labelled : Some (no_labels (switched z)) ≡ o = ap (λ k. Some (no_labels (by 33 k))) same in
         let j = items_typed c (in_switch e) o (Some (no_labels (switched z))) false items v (steps 2 u) (steps 2 u') labelled is.1 (none_second (node_mark a) (items_mark items) m) known (none_second (node_mark x.node) (items_mark y.items) n) clean few (steps_alike 0 0 (seen_at v) 2 judged) in
         record { form = ap₂ switch i.0 j.items; state = steps_alike 0 0 (seen_at (walk_items tables c false y.items v)) 1 j.state }
+    body_typed c e p break w s t is m h n clean few al = record { form = refl; state = steps_alike 0 0 (seen_at w) 2 (demand_alike 0 0 (seen_at w) e.breakable 37 s.at t.at p al) }
+    body_typed c e p continue w s t is m h n clean few al = record { form = refl; state = steps_alike 0 0 (seen_at w) 2 (demand_alike 0 0 (seen_at w) e.loop 37 s.at t.at p al) }
+    body_typed c e p (return a) w s t is m h n clean few al =
+        let x = type_result s.at p e.result a (step s) in
+        let i = results_typed false c s.at t.at p e.result 0 a w (step s) (step t) is m h clean few (steps_alike 0 0 (seen_at w) 1 al) in
+        record { form = ap return i.node; state = steps_alike 0 0 (seen_at (walk_maybe c x.node w)) 1 i.state }
 
     pub compound_typed : (c : Around) (e : Surroundings) (b : CompoundShape) (w : Walked) (s t : State) → ShapedCompound b → compound_mark b ≡ None → Knows false s → (
         let x = type_compound e b s in

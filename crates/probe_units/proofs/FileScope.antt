@@ -68,7 +68,7 @@ module _ (tables : TablesShape) where
       let claimed : Follows v (steps (star_tokens stars) s) (claim def g.number b.at g.pos b) = def_claimed 0 0 b.at y.pos q 0 d (with_variable w) (few_defs q 0 d (with_variable w) few) (steps_alike 0 0 (seen_at w) (star_tokens stars) al) in
       let same = function_same 0 0 (seen_at w) al in
       let rest = none_second (name_mark (Some y)) (first (lengths_mark ls) (maybe_init_mark i)) none in
-      let r = variable_marked 0 0 seen k k' stars y g ls i i e (none_first (name_mark (Some y)) (first (lengths_mark ls) (maybe_init_mark i)) none) (none_first (lengths_mark ls) (maybe_init_mark i) rest) (λ cs. refl) {s} {t} (may_stand t.function (has_init i) (same ∙ zero)) claimed in
+      let r = variable_marked 0 0 seen k k' stars y g ls i i e (none_first (name_mark (Some y)) (first (lengths_mark ls) (maybe_init_mark i)) none) (none_first (lengths_mark ls) (maybe_init_mark i) rest) (λ cs. refl) s t (may_stand t.function (has_init i) (same ∙ zero)) claimed in
       let j = maybe_init_alike 0 0 seen (nat_eq s.function 0) (nat_eq t.function 0) (variable_kind k stars (Some y) ls i s) (variable_kind k' stars (Some (marked g y)) ls i t) i (ap (λ z. nat_eq z 0) same) r.kind (none_second (lengths_mark ls) (maybe_init_mark i) rest) r.state in
       record { name = ap₂ (λ l z. declarator stars (Some (marked g y)) (arrays l) z) r.lengths j.init; state = j.state }
 

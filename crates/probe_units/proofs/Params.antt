@@ -104,7 +104,7 @@ module _ (tables : TablesShape) (f : ℕ) where
       let q = name_pos first_place (Some y) in
       let d = whole tables (with_variable w).variables in
       let claimed : Follows (behind_name y w) (behind_stars p specs stars s) (claim def g.number b.at g.pos b) = def_claimed 0 0 b.at y.pos q f d (with_variable w) (few_defs q f d (with_variable w) few) behind in
-      let r = param_marked 0 0 (seen_at (behind_name y w)) p specs stars y g ls i none_named none_long {s} {t} c.spelled claimed in
+      let r = param_marked 0 0 (seen_at (behind_name y w)) p specs stars y g ls i none_named none_long s t c.spelled claimed in
       record {
         param = ap₂ (λ x z. decl p x (more_declarators (declarator stars (Some (marked g y)) (arrays z) i) no_declarators)) c.specs r.lengths;
         kind = r.kind;

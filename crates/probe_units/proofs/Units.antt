@@ -1,5 +1,5 @@
 -- Functions with bodies, and units, are typed with their probes as they stand, where bodies are.
-use Rattle.std.proofs.Common.{◌≡◌, ℕ, ◌-◌, inl, List, [], ◌∷◌, length, Bool, false, true, Option, Some, None, ◌∙◌, refl, sym, ap, ap₂, subst}
+use Rattle.std.proofs.Common.{◌≡◌, ℕ, ◌-◌, inl, List, [], ◌∷◌, length, Bool, false, true, Option, Some, None, ◌∙◌, refl, sym, ap, ap₂, subst, arith}
 use Rattle.std.specs.Prelude.{is_some}
 use Rattle.c_syntax.specs.declared.text.Text.{Text}
 use Rattle.c_syntax.specs.declared.tree.ProgramLine.{ProgramLine}
@@ -46,7 +46,6 @@ use Rattle.probe_moved.proofs.States.{tables_same, further_alike, line_alike, de
 use Rattle.probe_moved.proofs.KeptUnits.{external_kept}
 use Rattle.probe_moved.proofs.Statements.{ruled_there}
 use Rattle.probe_typed.specs.Typed.{Follows}
-use Rattle.probe_typed.proofs.Follows.{clean_too}
 use Rattle.probe_stated.specs.Stated.{IsCompoundTypedAs, CompoundsAreTypedAs}
 use Rattle.probe_units.specs.Units.{at_params, IsUnitTypedAs, UnitsAreTypedAs}
 use Rattle.probe_units.proofs.Params.{function_typed}
@@ -172,12 +171,16 @@ line_known : (o : Option ProgramLine) (known : Option (List Bool)) → line_mark
 line_known None known none = (start_knows known, refl)
 line_known (Some k) known none = absurd (some_none k.pos none)
 
+-- in both runs there are as many complaints
+clean_too : (w : Walked) {s t : State} → Follows w s t → IsClean s → IsClean t
+clean_too w al c = omega (arith, ap (λ (z : State). length z.complaints) al.is, al.count, c)
+
 no_complaints : (cs : List Complaint) → length cs ≡ 0 → cs ≡ []
 no_complaints [] e = refl
 no_complaints (c ∷ cs) e = cc
 
-pub unit_typed : UnitsAreTypedAs
-unit_typed compounds known digest tables u is m e none clean few =
+pub units_typed : UnitsAreTypedAs
+units_typed compounds known digest tables u is m e none clean few =
     let l : ProgramLine = record { pos = first_place; digest = digest } in
     let s = type_line u.line (start known) in
     let t = type_line (Some l) (start known) in

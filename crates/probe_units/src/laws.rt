@@ -15,7 +15,7 @@ pub fn functions_are_defined_as()
 {}
 
 /// So is a unit with its probes, where bodies of functions are: nothing is complained of, and the tables are those of the unit without probes.
-#[tactic(auto, using(crate::proofs::Units::unit_typed))]
+#[tactic(auto, using(crate::proofs::Units::units_typed))]
 pub fn units_are_typed_as()
     ensures { UnitsAreTypedAs }
 {}

@@ -1,0 +1,2 @@
+mod ShapedWritten
+pub mod Whole
