@@ -1,9 +1,8 @@
 -- Declarations of file scope are typed with their probes as they stand.
-use Rattle.std.proofs.Common.{◌≡◌, ℕ, List, Bool, true, false, Option, Some, None, ◌∙◌, refl, sym, ap, ap₂, subst}
+use Rattle.std.proofs.Common.{◌≡◌, ℕ, List, Bool, true, Option, Some, None, ◌∙◌, refl, sym, ap, ap₂, subst}
 use Rattle.std.specs.Prelude.{◌||◌, nat_eq}
 use Rattle.c_base.specs.declared.place.Pos.{Pos}
 use Rattle.c_syntax.specs.declared.tree.Named.{Named}
-use Rattle.c_syntax.specs.declared.tree.ProbeMark.{ProbeMark}
 use Rattle.c_syntax.specs.declared.tree.Star.{Star}
 use Rattle.c_syntax.specs.Shape.{TypeOf, def, LengthShapes, SpecShapes, no_specs, DeclShape, decl, DeclaratorShape, declarator, DeclaratorShapes, no_declarators, more_declarators, arrays, function, MaybeInit}
 use Rattle.c_tables.specs.Tables.{TablesShape}
@@ -133,7 +132,7 @@ module _ (tables : TablesShape) where
       let same = ap spelled_rule c.spelled in
       let kept = sym (rule_kept r s.at p x.state) ∙ (sym (specs_kept empty specs unspelled s) ∙ zero) in
       let j = declarators_defined (kind_at r) (kind_at (spelled_rule z.spelled)) names w (steps end (rule r s.at p x.state)) (steps end (rule (spelled_rule z.spelled) t.at p z.state)) (ap kind_at same) named (none_second (specs_mark specs) (declarators_mark names) none) kept few
-          (steps_alike 0 0 (seen_at w) end (ruled_alike 0 0 (seen_at w) _ _ s.at t.at p same c.state)) in
+      (steps_alike 0 0 (seen_at w) end (ruled_alike 0 0 (seen_at w) _ _ s.at t.at p same c.state)) in
       let ps = defined_declarators tables 0 names w in
       let ends = none_defined names w in
       let whole_same : type_decl (decl p specs ps) t ≡ decl_with p empty end specs ps t = ap₂ (λ b n. decl_with p b n specs ps t) ends.0 ends.1 in

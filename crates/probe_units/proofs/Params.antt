@@ -1,25 +1,24 @@
 -- The declarator of a function with a body, and its parameters, are typed with their probes as they stand.
-use Rattle.std.proofs.Common.{◌≡◌, ℕ, List, [], ◌∷◌, Option, Some, None, true, false, refl, sym, ap, ap₂, subst}
+use Rattle.std.proofs.Common.{◌≡◌, ℕ, List, ◌∷◌, Option, Some, None, true, false, refl, ap, ap₂, subst}
 use Rattle.c_base.specs.declared.place.Pos.{Pos}
 use Rattle.c_syntax.specs.declared.tree.Named.{Named}
 use Rattle.c_syntax.specs.declared.tree.ProbeMark.{ProbeMark}
 use Rattle.c_syntax.specs.declared.tree.Star.{Star}
-use Rattle.c_syntax.specs.Shape.{TypeOf, def, LengthShapes, SpecShapes, DeclShape, decl, DeclShapes, no_decls, more_decls, DeclaratorShape, declarator, no_declarators, more_declarators, DeclFormShape, arrays, function, ParamsShape, empty, void, params, MaybeInit}
+use Rattle.c_syntax.specs.Shape.{TypeOf, def, LengthShapes, SpecShapes, DeclShape, decl, DeclShapes, no_decls, more_decls, DeclaratorShape, declarator, no_declarators, more_declarators, arrays, function, ParamsShape, empty, void, params, MaybeInit}
 use Rattle.c_syntax.specs.Shaped.{ShapedParams, ShapedParamList}
 use Rattle.c_tables.specs.Tables.{TablesShape}
 use Rattle.c_tables.specs.Rows.{first_place, text_of, name_pos}
 use Rattle.c_tree.specs.State.{State, step, steps}
 use Rattle.c_tree.specs.Parts.{pointed, star_tokens, unspelled, spelled_rule}
-use Rattle.c_tree.specs.Typing.{type_specs}
 use Rattle.c_tree.specs.Operators.{claim}
-use Rattle.c_tree.specs.Declaring.{name_tokens, claim_name, token_of_name, TypedParam, type_param, TypedParams, type_param_list, TypedSignature, type_params, TypedFunction, type_function}
+use Rattle.c_tree.specs.Declaring.{name_tokens, token_of_name, TypedParam, type_param, TypedParams, type_param_list, TypedSignature, type_params, TypedFunction, type_function}
 use Rattle.c_walk.specs.Walked.{Walked}
 use Rattle.c_walk.specs.Stating.{whole, with_variable, with_whole_def}
 use Rattle.c_walk.specs.Counted.{next_def}
-use Rattle.c_walk.specs.Units.{define_decl, define_decls, define_params}
+use Rattle.c_walk.specs.Units.{define_decls, define_params}
 use Rattle.c_meaning.proofs.Walks.{params_on}
 use Rattle.c_sites_probes.specs.Marked.{first, name_mark, lengths_mark, specs_mark, maybe_init_mark, declarator_mark, decl_mark, decls_mark, params_mark}
-use Rattle.probe_rules.specs.Fitting.{HasFewItems, IsDefining, AreDefining, AreFitParams}
+use Rattle.probe_rules.specs.Fitting.{HasFewItems, AreDefining, AreFitParams}
 use Rattle.probe_rules.specs.Marks.{mark_at}
 use Rattle.probe_rules.specs.Instrumented.{defined_decl, defined_decls, defined_params, defined_signature}
 use Rattle.probe_rules.proofs.ReadyUnits.{none_first, none_second}

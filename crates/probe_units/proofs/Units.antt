@@ -1,10 +1,9 @@
 -- Functions with bodies, and units, are typed with their probes as they stand, where bodies are.
 use Rattle.std.proofs.Common.{◌≡◌, ℕ, ◌-◌, inl, List, [], ◌∷◌, length, Bool, false, true, Option, Some, None, ◌∙◌, refl, sym, ap, ap₂, subst, arith}
 use Rattle.std.specs.Prelude.{is_some}
-use Rattle.c_syntax.specs.declared.text.Text.{Text}
 use Rattle.c_syntax.specs.declared.tree.ProgramLine.{ProgramLine}
 use Rattle.c_syntax.specs.declared.tree.Star.{Star}
-use Rattle.c_syntax.specs.Shape.{TypeOf, SpecShapes, no_specs, more_specs, DeclaratorShape, declarator, arrays, function, MaybeInit, CompoundShape, braces, ExternalShape, defined, declared, UnitShape}
+use Rattle.c_syntax.specs.Shape.{TypeOf, declarator, arrays, function, CompoundShape, braces, ExternalShape, defined, declared}
 use Rattle.c_syntax.specs.Shaped.{ShapedCompound, ShapedExternal, ShapedExternals}
 use Rattle.c_constants.specs.Probes.{digest_of}
 use Rattle.c_type_rules.specs.Verdicts.{result_type}
@@ -15,16 +14,16 @@ use Rattle.c_tree.specs.State.{State}
 use Rattle.c_tree.specs.Rulings.{by, rule, kind_at}
 use Rattle.c_tree.specs.Parts.{unspelled, spelled_rule, pointed}
 use Rattle.c_tree.specs.Typing.{type_specs}
-use Rattle.c_tree.specs.Declaring.{type_params, TypedFunction, type_function, type_decl}
+use Rattle.c_tree.specs.Declaring.{type_params, type_function}
 use Rattle.c_tree.specs.Stating.{Surroundings, type_compound}
-use Rattle.c_tree.specs.Units.{specs_place, begun_function, TypedExternal, type_external, TypedExternals, type_externals, start, type_line, any_main, type_unit}
+use Rattle.c_tree.specs.Units.{specs_place, begun_function, type_external, TypedExternals, type_externals, start, type_line, any_main}
 use Rattle.c_tree.proofs.Again.{specs_again}
 use Rattle.c_walk.specs.Walked.{Walked, with_block}
 use Rattle.c_walk.specs.Stating.{walk_compound}
 use Rattle.c_walk.specs.Counted.{next_block}
 use Rattle.c_walk.specs.Units.{define_params, function_of, in_function, walk_external, walk_externals, no_items}
 use Rattle.c_meaning.proofs.Walks.{block_on, compound_on, externals_on}
-use Rattle.c_sites_probes.specs.Marked.{first, mark_among, name_mark, specs_mark, params_mark, maybe_init_mark, declarator_mark, compound_mark, external_mark, externals_mark, line_mark, unit_mark}
+use Rattle.c_sites_probes.specs.Marked.{first, mark_among, name_mark, specs_mark, params_mark, maybe_init_mark, declarator_mark, compound_mark, external_mark, externals_mark, line_mark}
 use Rattle.probe_rules.specs.Fitting.{HasFewItems}
 use Rattle.probe_rules.specs.Marks.{mark_at}
 use Rattle.probe_rules.specs.ProbedStatements.{probed_compound}
@@ -35,7 +34,7 @@ use Rattle.probe_rules.proofs.GrowsUnits.{function_grows, variables_grow, compou
 use Rattle.probe_rules.proofs.Moved.{AlikeSpecs, specs_alike}
 use Rattle.probe_rules.proofs.Claims.{seen_at, block_claimed}
 use Rattle.probe_rules.proofs.Few.{few_before, few_blocks}
-use Rattle.probe_laws.proofs.Settled.{IsThere, IsClean, type_there}
+use Rattle.probe_laws.proofs.Settled.{IsClean, type_there}
 use Rattle.probe_laws.proofs.Rules.{back}
 use Rattle.probe_laws.proofs.Known.{Knows, rule_goes}
 use Rattle.probe_laws.proofs.KnownParts.{spelled_settled}
@@ -47,15 +46,9 @@ use Rattle.probe_moved.proofs.KeptUnits.{external_kept}
 use Rattle.probe_moved.proofs.Statements.{ruled_there}
 use Rattle.probe_typed.specs.Typed.{Follows}
 use Rattle.probe_stated.specs.Stated.{IsCompoundTypedAs, CompoundsAreTypedAs}
-use Rattle.probe_units.specs.Units.{at_params, IsUnitTypedAs, UnitsAreTypedAs}
+use Rattle.probe_units.specs.Units.{at_params, IsExternalTypedAs, ExternalsAreTypedAs, UnitsAreTypedAs}
 use Rattle.probe_units.proofs.Params.{function_typed}
 use Rattle.probe_units.proofs.FileScope.{decl_typed}
-
--- ---- what comes of the items of a unit
-
-record IsExternalTypedAs (v : Walked) (x : TypedExternal) (e : ExternalShape) (y : TypedExternal) : Type 0 where
-  external : y.external ≡ e
-  state : Follows v x.state y.state
 
 record AreExternalsTypedAs (v : Walked) (x : TypedExternals) (es : List ExternalShape) (y : TypedExternals) : Type 0 where
   externals : y.externals ≡ es
@@ -159,6 +152,9 @@ module _ (compounds : CompoundsAreTypedAs) (tables : TablesShape) where
       let z = type_external (probed_external tables x.external w) t in
       let j = externals_typed rest v x.state z.state is.1 (none_second (external_mark e) (externals_mark rest) m) known (external_kept e s zero) (none_second (external_mark x.external) (externals_mark y.externals) none) clean few i.state in
       record { externals = ap₂ (λ a b. a ∷ b) i.external j.externals; state = j.state }
+
+pub external_so : ExternalsAreTypedAs
+external_so compounds tables e w s t is m h zero none clean few al = external_typed compounds tables e w s t is m h zero none clean few al
 
 -- ---- units
 

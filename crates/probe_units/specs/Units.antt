@@ -4,19 +4,19 @@ use Rattle.std.specs.Prelude.{◌≡◌, ℕ, List, [], Bool, true, false, is_so
 use Rattle.c_syntax.specs.declared.text.Text.{Text}
 use Rattle.c_syntax.specs.declared.tree.Named.{Named}
 use Rattle.c_syntax.specs.declared.tree.Star.{Star}
-use Rattle.c_syntax.specs.Shape.{TypeOf, DeclShape, DeclaratorShape, declarator, function, ParamsShape, MaybeInit, UnitShape}
-use Rattle.c_syntax.specs.Shaped.{in_names, ShapedDecl, ShapedParams, ShapedUnit}
+use Rattle.c_syntax.specs.Shape.{TypeOf, DeclShape, DeclaratorShape, declarator, function, ParamsShape, MaybeInit, ExternalShape, UnitShape}
+use Rattle.c_syntax.specs.Shaped.{in_names, ShapedDecl, ShapedParams, ShapedExternal, ShapedUnit}
 use Rattle.c_constants.specs.Probes.{digest_of}
 use Rattle.c_tables.specs.Tables.{TablesShape}
 use Rattle.c_tree.specs.State.{State, steps}
 use Rattle.c_tree.specs.Parts.{star_tokens}
 use Rattle.c_tree.specs.Declaring.{name_tokens, claim_name, opened_scope, type_params, TypedFunction, type_function, TypedDecl, type_decl}
-use Rattle.c_tree.specs.Units.{TypedUnit, type_unit}
+use Rattle.c_tree.specs.Units.{TypedExternal, type_external, TypedUnit, type_unit}
 use Rattle.c_walk.specs.Walked.{Walked}
-use Rattle.c_walk.specs.Units.{define_decl, define_params, walk_externals, no_items}
-use Rattle.c_sites_probes.specs.Marked.{name_mark, params_mark, decl_mark, unit_mark}
+use Rattle.c_walk.specs.Units.{define_decl, define_params, walk_external, walk_externals, no_items}
+use Rattle.c_sites_probes.specs.Marked.{name_mark, params_mark, decl_mark, external_mark, unit_mark}
 use Rattle.probe_rules.specs.Fitting.{HasFewItems}
-use Rattle.probe_rules.specs.Instrumented.{defined_params, defined_decl, instrumented_unit}
+use Rattle.probe_rules.specs.Instrumented.{defined_params, defined_decl, probed_external, instrumented_unit}
 use Rattle.probe_laws.proofs.Settled.{IsThere, IsClean}
 use Rattle.probe_laws.proofs.Known.{Knows}
 use Rattle.probe_typed.specs.Typed.{Follows}
@@ -55,6 +55,19 @@ FunctionsAreDefinedAs = (tables : TablesShape) (f : ℕ) (k k' : Option TypeOf) 
     let qs = defined_params tables f list w in
     let v = define_params tables f list w in
     name_mark n ≡ None → params_mark list ≡ None → IsClean x.state → HasFewItems v → Follows w s t → IsFunctionDefinedAs v x (declarator stars n (function qs) i) (type_function true k' stars n qs i t))
+
+-- ---- declarations and functions of a unit, where bodies of functions are typed as they stand: each body is a block
+
+pub record IsExternalTypedAs (v : Walked) (x : TypedExternal) (e : ExternalShape) (y : TypedExternal) : Type 0 where
+  pub external : y.external ≡ e
+  pub state : Follows v x.state y.state
+
+abbrev pub ExternalsAreTypedAs : Type 0
+ExternalsAreTypedAs = CompoundsAreTypedAs → (tables : TablesShape) (e : ExternalShape) (w : Walked) (s t : State) → ShapedExternal e → external_mark e ≡ None → Knows false s → s.function ≡ 0 → (
+    let x = type_external e s in
+    let p = probed_external tables x.external w in
+    let v = walk_external tables x.external w in
+    external_mark x.external ≡ None → IsClean x.state → HasFewItems v → Follows w s t → IsExternalTypedAs v x p (type_external p t))
 
 -- ---- units
 
