@@ -1,0 +1,3 @@
+mod Params
+mod FileScope
+pub mod Units
