@@ -40,7 +40,7 @@ lexed_so source bytes a =
     let given = a.read.written in
     let sound = given_is_sound Plain source given.tokens bytes given.given in
     let same : tokens_of a.unit ≡ tokens_of u =
-        ap tokens_of a.read.typed.unit ∙ (sym (tokens_same (typed_unit u).unit) ∙ (ap tokens_of (unit_bare (Some (bodies u)) u) ∙ tokens_same u)) in
+    ap tokens_of a.read.typed.unit ∙ (sym (tokens_same (typed_unit u).unit) ∙ (ap tokens_of (unit_bare (Some (bodies u)) u) ∙ tokens_same u)) in
     let kinds : kinds_of given.tokens ≡ tokens_of a.unit = placed_kinds u given.tokens given.placed ∙ sym same in
     subst AreLexed kinds (record { tokens = sound.tokens; kept = sound.kept; apart = sound.apart })
 

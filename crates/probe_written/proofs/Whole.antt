@@ -1,9 +1,8 @@
 -- A program with its probes, typed without its notes, has them again; so its text reads back, and runs as the program.
-use Rattle.std.proofs.Common.{◌≡◌, List, [], ◌∷◌, map, Option, Some, None, Bool, true, is_some, length, ◌∙◌, refl, sym, ap, subst}
+use Rattle.std.proofs.Common.{◌≡◌, [], map, Some, None, is_some, length, ◌∙◌, sym, ap, subst}
 use Rattle.c_syntax.specs.declared.text.Text.{Text}
 use Rattle.c_syntax.specs.Shape.{UnitShape}
 use Rattle.c_syntax.specs.Shaped.{ShapedUnit}
-use Rattle.c_constants.specs.Probes.{digest_of}
 use Rattle.c_tables.specs.Tables.{TablesShape}
 use Rattle.c_tree.specs.Units.{TypedUnit, type_unit, typed_unit, bodies, complaints}
 use Rattle.c_tree.specs.Unnoted.{bare_unit}
@@ -12,18 +11,14 @@ use Rattle.c_walk.specs.Units.{walk_externals, no_items}
 use Rattle.c_sites_probes.specs.Marked.{unit_mark}
 use Rattle.c_unnoted.specs.Unnoted.{Written}
 use Rattle.c_unnoted.proofs.Units.{units_unnoted}
-use Rattle.c_meaning.specs.Calls.{Source}
 use Rattle.probe_rules.specs.Fitting.{HasFewItems}
-use Rattle.probe_rules.specs.Instrumented.{instrumented_unit, instrumented}
+use Rattle.probe_rules.specs.Instrumented.{instrumented_unit}
 use Rattle.probe_laws.proofs.BareMarks.{typed_mark}
-use Rattle.probe_passes.specs.Passes.{first_pass}
 use Rattle.probe_passes.proofs.Units.{passes_agree}
 use Rattle.probe_parsed.proofs.FirmUnits.{instrumented_is_shaped}
 use Rattle.probe_stated.proofs.Bodies.{compounds_typed}
-use Rattle.probe_units.specs.Units.{IsUnitTypedAs}
 use Rattle.probe_units.proofs.Units.{units_typed}
-use Rattle.probe_text.specs.Text.{text_in}
-use Rattle.probe_reads.specs.ReadBack.{IsTypedAs, IsWritten}
+use Rattle.probe_reads.specs.ReadBack.{IsTypedAs}
 use Rattle.probe_reads.proofs.ReadBack.{written_reads_back, shaped_program}
 use Rattle.probe_kept.proofs.Kept.{kept_runs}
 use Rattle.probe_written.specs.Written.{IsDigest, ProbedIsTypedAs, TextReadsAs, TextRunsAs}
