@@ -38,7 +38,7 @@ module _ (n m : ℕ) (seen : Seen) where
       Alike n m seen (steps (name_tokens (Some y)) (claim_name may (Some y) s)) (steps (name_tokens (Some (marked g y))) (claim_name may' (Some (marked g y)) t))
   name_marked may may' y g none e s t al =
       tokens_alike n m seen (name_tokens (Some y)) (name_tokens (Some (marked g y)))
-      (subst (λ z. Alike n m seen z (claim_name may' (Some (marked g y)) t)) (sym (unclaimed n m seen may (Some y) none s)) (met_alike n m seen may' 37 t.at g.pos e al))
+      (subst (λ z. Alike n m seen z (claim_name may' (Some (marked g y)) t)) (sym (unclaimed may (Some y) none s)) (met_alike n m seen may' 37 t.at g.pos e al))
 
   pub record AlikeVariable (k k' : Option TypeOf) (stars : List Star) (y : Named) (g : ProbeMark) (ls : LengthShapes) (i i' : MaybeInit) (s t : State) : Type 0 where
     pub lengths : (variable_lengths stars (Some (marked g y)) ls i' t).lengths ≡ (variable_lengths stars (Some y) ls i s).lengths

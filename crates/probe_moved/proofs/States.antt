@@ -42,6 +42,15 @@ judged_function defining token p x k given file s =
     let r = by 33 (result_type k) in
     declare_function defining token p x (signature_of (kind_at r) (all_kinds given)) (outside file (rule r token p s))
 
+mark_unclaimed : (may : Bool) (o : Option ProbeMark) → mark_in o ≡ None → (s : State) → claim_mark may o s ≡ s
+mark_unclaimed may None none s = refl
+mark_unclaimed may (Some x) none s = absurd (some_none x.pos none)
+
+-- a name without a probe claims nothing
+pub unclaimed : (may : Bool) (x : Option Named) → name_mark x ≡ None → (s : State) → claim_name may x s ≡ s
+unclaimed may None none s = refl
+unclaimed may (Some x) none s = mark_unclaimed may x.probe none s
+
 module _ (n m : ℕ) (seen : Seen) where
   -- ---- what is the same in both states
 
@@ -95,15 +104,7 @@ module _ (n m : ℕ) (seen : Seen) where
 
   -- ---- declared names
 
-  mark_unclaimed : (may : Bool) (o : Option ProbeMark) → mark_in o ≡ None → (s : State) → claim_mark may o s ≡ s
-  mark_unclaimed may None none s = refl
-  mark_unclaimed may (Some x) none s = absurd (some_none x.pos none)
-
   -- a name without a probe
-  pub unclaimed : (may : Bool) (x : Option Named) → name_mark x ≡ None → (s : State) → claim_name may x s ≡ s
-  unclaimed may None none s = refl
-  unclaimed may (Some x) none s = mark_unclaimed may x.probe none s
-
   pub claim_name_alike : (may may' : Bool) (x : Option Named) → name_mark x ≡ None → {s t : State} → Alike n m seen s t → Alike n m seen (claim_name may x s) (claim_name may' x t)
   claim_name_alike may may' x none {s} {t} al = subst (λ z. Alike n m seen z (claim_name may' x t)) (sym (unclaimed may x none s)) (subst (λ z. Alike n m seen s z) (sym (unclaimed may' x none t)) al)
 
