@@ -345,7 +345,7 @@ function_fits defining k stars x ps i s is there h c =
 
 -- ---- declarations
 
-declarator_fits : (k : Option TypeOf) (d : DeclaratorShape) (s : State) → ShapedDeclarator in_names d → declarator_mark (type_declarator k d s).name ≡ None → IsThere k → Knows false s → IsClean (type_declarator k d s).state
+pub declarator_fits : (k : Option TypeOf) (d : DeclaratorShape) (s : State) → ShapedDeclarator in_names d → declarator_mark (type_declarator k d s).name ≡ None → IsThere k → Knows false s → IsClean (type_declarator k d s).state
     → Goes false s (type_declarator k d s).state × IsFitDeclarator (type_declarator k d s).name × IsDefined (type_declarator k d s).name
 declarator_fits k (declarator stars x (arrays ls) i) s is m there h c = let one = variable_fits true k stars x ls i s is.0 is.1 is.2 m there h c in (one.0, one.1, is_named x is.0)
 declarator_fits k (declarator stars x (function ps) i) s is m there h c = let one = function_fits false k stars x ps i s is.1.1 there h c in (one.0, tt, tt)
