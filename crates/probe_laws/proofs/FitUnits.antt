@@ -61,7 +61,7 @@ changed_size f i [] = refl
 changed_size f zero (r ∷ rows) = refl
 changed_size f (suc i) (r ∷ rows) = ap suc (changed_size f i rows)
 
-begun_goes : (f : TypedFunction) (s : State) → AreTyped f.given → Knows false s → Goes false s (begun_function f s)
+pub begun_goes : (f : TypedFunction) (s : State) → AreTyped f.given → Knows false s → Goes false s (begun_function f s)
 begun_goes f s is h =
     let params = numbers_from (next_variable s) f.given in
     let v = record s {
@@ -81,7 +81,7 @@ ended_goes s h = (left_holds false (length s.tables.functions) s.names h, omega 
 
 -- ---- units
 
-external_fits : (e : ExternalShape) (s : State) → ShapedExternal e → external_mark (type_external e s).external ≡ None → Knows false s → IsClean (type_external e s).state → Goes false s (type_external e s).state × IsFitExternal (type_external e s).external
+pub external_fits : (e : ExternalShape) (s : State) → ShapedExternal e → external_mark (type_external e s).external ≡ None → Knows false s → IsClean (type_external e s).state → Goes false s (type_external e s).state × IsFitExternal (type_external e s).external
 external_fits (declared d) s is m h c = let one = decl_fits d s is m h c in (one.0, one.2)
 external_fits (defined specs (declarator stars x (arrays ls) i) ms c) s is m h clean = absurd is.1
 external_fits (defined specs (declarator stars x (function ps) i) ms c) s is m h clean =
@@ -120,7 +120,7 @@ line_goes : (l : Option ProgramLine) (s : State) → Knows false s → Goes fals
 line_goes None s h = stays s h
 line_goes (Some l) s h = demand_goes (is_some (digest_of l.digest)) 37 s.at l.pos s h
 
-start_knows : (known : Option (List Bool)) → Knows false (start known)
+pub start_knows : (known : Option (List Bool)) → Knows false (start known)
 start_knows known = record { sure = (tt, (tt, (tt, tt))); around = tt; inside = tt }
 
 -- whichever functions count as defined
