@@ -49,23 +49,23 @@ MayBeTested a = IsThere (kind_at (by wrong_type (truth_type a.kind)))
 
 -- ---- what is typed again
 
--- the second state is the first one at another token, where the probes were seen that the walk has counted; nothing was complained of
--- in the one that wasn't in the other
+-- the second state is the first one, at whatever token, where as many probes of each kind were seen as the walk has counted; and there are
+-- as many complaints in both
 abbrev pub Follows : Walked → State → State → Type 0
 Follows w s t = Alike 0 0 (seen_at w) s t
 
--- typed as it stands, with that sort
+-- the tree with its probes is typed as it stands, with the sort that was found without them; and the walk's counts are seen behind it
 pub record IsTypedAs (v : Walked) (x : TypedNode) (b : NodeShape) (y : TypedNode) : Type 0 where
   pub node : y.node ≡ b
   pub sort : y.sort ≡ x.sort
   pub state : Follows v x.state y.state
 
--- the same as a value, where an array is a pointer, and asked for its value alone
+-- the same type as a value, where an array is a pointer, and the same as a constant expression
 pub record IsNear (a b : Sort) : Type 0 where
   pub kind : option_map decay b.kind ≡ option_map decay a.kind
   pub constant : AreAlike b.constant a.constant
 
--- typed as it stands, with a sort near to that one
+-- the same with a sort near to that one
 pub record IsTypedNear (v : Walked) (x : TypedNode) (b : NodeShape) (y : TypedNode) : Type 0 where
   pub node : y.node ≡ b
   pub sort : IsNear x.sort y.sort
@@ -81,8 +81,9 @@ pub record MaybeTypedAs (v : Walked) (x : TypedMaybe) (b : MaybeNode) (y : Typed
   pub node : y.node ≡ b
   pub state : Follows v x.state y.state
 
--- ---- statements. Each is of a plain source from which nothing was complained of, in which few items are counted
+-- ---- statements: each of a source without probes in which nothing is complained of, and in which few items are counted
 
+-- one that may be taken so, wherever it stands
 abbrev pub NodesAreTypedAs : Type 0
 NodesAreTypedAs = (b : Bool) (c : Around) (r : Taken) (a : NodeShape) (w : Walked) (s t : State) → Shaped a → node_mark a ≡ None → Knows b s → (
     let x = type_node a s in
@@ -121,6 +122,7 @@ ArgumentsAreTypedAs = (b : Bool) (c : Around) (gs hs : List Given) (es : NodeSha
     let v = walk_nodes c x.nodes w in
     IsClean x.state → HasFewItems v → AlikeGiven 0 0 (seen_at w) gs hs → Follows w s t → AreTypedAs v x ps (type_arguments hs ps t))
 
+-- one that may be left out
 abbrev pub MaybesAreTypedAs : Type 0
 MaybesAreTypedAs = (b : Bool) (c : Around) (l : ℕ) (a : MaybeNode) (w : Walked) (s t : State) → ShapedMaybe l a → maybe_mark a ≡ None → Knows b s → (
     let x = type_maybe a s in
@@ -151,6 +153,6 @@ ResultsAreTypedAs = (b : Bool) (c : Around) (token last : ℕ) (p : Pos) (k : Op
     let v = walk_maybe c x.node w in
     IsClean x.state → HasFewItems v → Follows w s t → MaybeTypedAs v x q (type_result last p k q t))
 
--- a test of a statement, judged behind it
+-- the test of a statement is judged behind it
 abbrev pub TestsAreJudgedAlike : Type 0
 TestsAreJudgedAlike = (v : Walked) (first last : ℕ) (x : TypedNode) (b : NodeShape) (y : TypedNode) → IsTypedNear v x b y → Follows v (tested first x) (tested last y)
