@@ -1,0 +1,8 @@
+mod Follows
+mod Near
+mod Probes
+mod Sites
+mod Written
+mod Tests
+mod Expressions
+pub mod Parts
