@@ -8,14 +8,13 @@ use Rattle.c_arith.specs.declared.ArithUnary.TheVariants as one
 use Rattle.c_arith.specs.Arith.{wrap}
 use Rattle.c_syntax.specs.declared.tree.UnaryOp.{UnaryOp}
 use Rattle.c_syntax.specs.declared.tree.UnaryOp.TheVariants as front
-use Rattle.c_syntax.specs.declared.tree.BinaryOp.{BinaryOp}
 use Rattle.c_syntax.specs.Shape.{TypeOf, int, pointer, array, structure, nothing, Infix, plain, and, or, assign, comma, Access, dot, arrow}
 use Rattle.c_type_rules.specs.Kinds.{promote, meet}
 use Rattle.c_constants.specs.declared.constants.Constant.{Constant}
 use Rattle.c_constants.specs.declared.constants.Constant.TheVariants.{No, Faulty, Known, Variable, Part, Address, Literal}
 use Rattle.c_constants.specs.Constants as constants
 use Rattle.c_constants.specs.Constants.{kind_of, value, given, with_one, with_two, of_both, is_zero, truth_value, unary_kind, unary_value, arithmetic, computing_kind, result_kind, binary_value}
-use Rattle.c_tree.specs.Rulings.{cast_constant, element_constant}
+use Rattle.c_tree.specs.Rulings.{element_constant}
 use Rattle.c_tree.specs.Operators.{field_constant}
 use Rattle.c_walk.specs.Tests.{joined}
 use Rattle.probe_rules.proofs.SameConstants.{AreAlike}

@@ -1,5 +1,5 @@
 -- Where nothing is complained of a switch, its case constants are pairwise different, as values of the type that it chooses by.
-use Rattle.std.proofs.Common.{◌≡◌, ℕ, ℤ, List, [], ◌∷◌, ◌++◌, map, length, Option, Some, None, Bool, true, false, not, ◌&&◌, ◌||◌, ◌⊎◌, inl, inr, true≢false, refl, sym, ap, ap₂, subst, ◌∙◌}
+use Rattle.std.proofs.Common.{◌≡◌, ℕ, ℤ, List, [], ◌∷◌, ◌++◌, map, Option, Some, None, Bool, true, false, not, ◌&&◌, ◌||◌, inl, inr, true≢false, refl, sym, ap, ap₂, subst, ◌∙◌}
 use Rattle.std.specs.Ordering.{int_eq}
 use Rattle.std.proofs.lemmas.Bool.{false_from_ne_true}
 use Rattle.std.proofs.lemmas.Bool.Decides.{Decides-int_eq}
@@ -15,10 +15,10 @@ use Rattle.c_sites_probes.specs.Marked.{first, node_mark, labels_mark, stmt_mark
 use Rattle.c_tree.specs.Complaints.{case_twice, not_constant}
 use Rattle.c_tree.specs.State.{State, step, steps, demand}
 use Rattle.c_tree.specs.Rulings.{rule, of_kind, allowed_if}
-use Rattle.c_tree.specs.Sorts.{Sort, pos_in}
+use Rattle.c_tree.specs.Sorts.{pos_in}
 use Rattle.c_tree.specs.Operators.{constant_rule, is_there, is_among, wrapped, differ}
 use Rattle.c_tree.specs.Typing.{type_node}
-use Rattle.c_tree.specs.Stating.{Surroundings, Labels, comes_twice, as_kind, with_value, case_state, default_state, case_labels, default_labels, TypedLabels, type_labels, type_stmt, type_items}
+use Rattle.c_tree.specs.Stating.{Surroundings, Labels, comes_twice, as_kind, case_state, default_state, case_labels, default_labels, TypedLabels, type_labels, type_stmt, type_items}
 use Rattle.c_walk.specs.Tests as tests
 use Rattle.c_walk.specs.Tests.{case_value, label_values, case_values}
 use Rattle.probe_rules.proofs.Grows.{rule_grows}

@@ -1,5 +1,5 @@
 -- What typing knows of the value of an expression without probes is read of its tree, where nothing is complained of.
-use Rattle.std.proofs.Common.{◌≡◌, List, [], length, Option, Some, None, refl, sym, ap, subst}
+use Rattle.std.proofs.Common.{◌≡◌, [], length, None, refl, sym, ap, subst}
 use Rattle.c_base.specs.declared.place.Pos.{Pos}
 use Rattle.c_syntax.specs.Shape.{number, char, str, name, unary, before, size_of, NodeShape, node, ExprShape, leaf, paren, call, prefix, size_of_type, cast, suffix, two, choose, probe, index, field, behind, simple, select}
 use Rattle.c_type_rules.specs.Verdicts.{cast_type}

@@ -1,15 +1,15 @@
 -- What an operator comes to without complaint: what typing knows of its value is read of its tree.
-use Rattle.std.proofs.Common.{◌≡◌, ℕ, ◌⊎◌, inl, inr, List, Option, Some, None, Bool, true, false, nat_eq, refl, sym, ap, subst, ◌∙◌}
+use Rattle.std.proofs.Common.{◌≡◌, ℕ, ◌⊎◌, inl, inr, List, Option, Some, None, Bool, false, nat_eq, refl, sym, ap, subst, ◌∙◌}
 use Rattle.c_base.specs.declared.place.Pos.{Pos}
 use Rattle.c_syntax.specs.declared.text.Text.{Text}
 use Rattle.c_syntax.specs.declared.tree.UnaryOp.{UnaryOp}
 use Rattle.c_syntax.specs.declared.tree.UnaryOp.TheVariants as front
-use Rattle.c_syntax.specs.Shape.{TypeOf, int, pointer, array, structure, nothing, NoteShape, number, name, unary, Infix, plain, and, or, assign, comma, Access, NodeShape, ExprShape, leaf, call, prefix, cast, two, choose, TypeShape, NodeShapes}
+use Rattle.c_syntax.specs.Shape.{TypeOf, int, pointer, array, structure, nothing, NoteShape, name, unary, Infix, plain, and, or, assign, comma, NodeShape, ExprShape, leaf, call, prefix, cast, two, choose, TypeShape, NodeShapes}
 use Rattle.c_type_rules.specs.Layouts.{Measure, known, incomplete, too_large, measure}
-use Rattle.c_type_rules.specs.Verdicts.{cast_type, turned_type}
+use Rattle.c_type_rules.specs.Verdicts.{cast_type}
 use Rattle.c_constants.specs.declared.numbers.Number.{Number}
 use Rattle.c_constants.specs.declared.constants.Constant.{Constant}
-use Rattle.c_constants.specs.declared.constants.Constant.TheVariants.{No, Known}
+use Rattle.c_constants.specs.declared.constants.Constant.TheVariants.{No}
 use Rattle.c_constants.specs.Constants as constants
 use Rattle.c_constants.specs.Constants.{kind_of}
 use Rattle.c_tables.specs.Tables.{FunctionShape, VariableShape}
@@ -18,15 +18,15 @@ use Rattle.c_tree.specs.declared.meaning.Entity.{Entity}
 use Rattle.c_tree.specs.declared.meaning.Entity.TheVariants as entity
 use Rattle.c_tree.specs.Complaints.{wrong_type}
 use Rattle.c_tree.specs.State.{State, step}
-use Rattle.c_tree.specs.Rulings.{Ruled, allowed, unsettled, refused, by, then_rule, kind_at, rule, of_kind, whole, sized, as_size, size_in, size_constant, cast_constant}
-use Rattle.c_tree.specs.Sorts.{Sort, a_value, a_place, Typing, plainly, naming, valuing, Outcome, comes_to, Formed, formed, note_of}
+use Rattle.c_tree.specs.Rulings.{Ruled, allowed, unsettled, refused, by, then_rule, kind_at, rule, of_kind, whole, sized, as_size, size_in, cast_constant}
+use Rattle.c_tree.specs.Sorts.{Sort, a_value, Typing, plainly, naming, valuing, note_of}
 use Rattle.c_tree.specs.Operators.{number_sort, named_variable, named_parameter, named_entity, Given, call_of, typed_call, unary_rule, unary_sort, place_rule, typed_unary, typed_infix, typed_choice, choice_rule, typed_cast, typed_size, typed_type_size}
 use Rattle.c_walk.specs.Tests as tests
 use Rattle.c_walk.specs.Tests.{constant_form, noted_constant, number_constant, cast_to, joined}
 use Rattle.probe_rules.proofs.SameConstants.{AreAlike}
 use Rattle.probe_laws.proofs.Settled.{IsThere, IsClean, mended}
 use Rattle.probe_laws.proofs.Rules.{unary_there, size_there, type_size_there, cast_there, infix_there, choice_there}
-use Rattle.probe_cases.proofs.Alike.{alike_same, none_alike, unary_alike, joined_alike, choice_alike, cast_alike, address_none, unary_none, joined_none, test_none, branches_none, cast_none, variable_none}
+use Rattle.probe_cases.proofs.Alike.{alike_same, none_alike, unary_alike, joined_alike, choice_alike, cast_alike, unary_none, joined_none, test_none, branches_none, cast_none, variable_none}
 
 -- ---- what is said of a form
 

@@ -1,5 +1,5 @@
 -- A select probe is typed as it stands, where its expression is; and the case constants of a switch are what such a probe may hold.
-use Rattle.std.proofs.Common.{◌≡◌, ℕ, ◌≤◌, ℤ, List, [], ◌∷◌, map, length, nat_eq, Option, Some, None, Bool, true, false, refl, sym, ap, ap₂, subst, ◌∙◌, arith}
+use Rattle.std.proofs.Common.{◌≡◌, ℕ, ℤ, List, [], ◌∷◌, length, nat_eq, Option, Some, None, Bool, true, false, refl, sym, ap, ap₂, subst, ◌∙◌, arith}
 use Rattle.std.specs.Fmt.{decimal}
 use Rattle.std.proofs.lemmas.Bool.Decides.{nat_tests}
 use Rattle.c_base.specs.declared.place.Pos.{Pos}
@@ -22,10 +22,9 @@ use Rattle.c_tree.specs.Operators.{claim, differ, select_cases, select_rule}
 use Rattle.c_tree.specs.Typing.{type_node, type_form, type_cases}
 use Rattle.c_tree.specs.Stating.{Surroundings, in_switch, no_labels, kind_of_switch, switched, type_items, type_body}
 use Rattle.c_sites_probes.specs.Marked.{node_mark, items_mark, body_mark}
-use Rattle.c_walk.specs.Items.{Outcomes}
 use Rattle.c_walk.specs.Tests.{choosing, case_values}
-use Rattle.c_walk.specs.Walked.{Walked, next_decision, with_decision, pos_of}
-use Rattle.probe_rules.specs.Marks.{value_note, constants_at, in_select}
+use Rattle.c_walk.specs.Walked.{next_decision}
+use Rattle.probe_rules.specs.Marks.{value_note, constants_at}
 use Rattle.probe_rules.proofs.Grows.{rule_grows}
 use Rattle.probe_rules.proofs.GrowsUnits.{items_grow}
 use Rattle.probe_rules.proofs.ReadyUnits.{none_second}
@@ -34,7 +33,7 @@ use Rattle.probe_laws.proofs.Settled.{IsThere, IsClean, mended}
 use Rattle.probe_laws.proofs.Rules.{back}
 use Rattle.probe_laws.proofs.Known.{IsSure, AllSure, AllOuter, Knows, rule_goes}
 use Rattle.probe_laws.proofs.KnownNodes.{node_knows}
-use Rattle.probe_cases.specs.Cases.{IsFurther, AreInRange, AreDifferent, IsKnown, AreKnown, AreKnownAround, KnowsNames, HasDifferentCases, CasesDiffer, Stands, begun, SelectsAreTyped}
+use Rattle.probe_cases.specs.Cases.{IsFurther, AreInRange, AreDifferent, IsKnown, AreKnown, AreKnownAround, KnowsNames, CasesDiffer, Stands, SelectsAreTyped}
 use Rattle.probe_cases.proofs.Spelled.{noted_if, lists_are_typed}
 use Rattle.probe_cases.proofs.Different.{HasSeen, values_differ, items_differ}
 

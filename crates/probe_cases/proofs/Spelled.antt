@@ -1,12 +1,12 @@
 -- The constants of a select probe are typed as they stand, each as the integer that it spells.
-use Rattle.std.proofs.Common.{◌≡◌, ℕ, zero, suc, ◌<◌, ◌++◌, ℤ, pos, negsuc, List, [], ◌∷◌, map, length, nat_eq, Option, Some, None, Bool, true, refl, sym, ap, ap₂, subst, ◌∙◌, arith}
+use Rattle.std.proofs.Common.{◌≡◌, ℕ, zero, suc, ◌++◌, ℤ, pos, negsuc, List, [], ◌∷◌, map, length, nat_eq, Option, Some, None, Bool, true, refl, sym, ap, ap₂, subst, ◌∙◌, arith}
 use Rattle.std.specs.Fmt.{decimal}
 use Rattle.std.proofs.lemmas.Bool.Decides.{nat_tests}
 use Rattle.c_base.specs.declared.place.Pos.{Pos}
 use Rattle.c_base.specs.declared.place.IntKind.{IntKind}
-use Rattle.c_arith.specs.Arith.{InRange, wrap}
+use Rattle.c_arith.specs.Arith.{InRange}
 use Rattle.c_syntax.specs.declared.tree.UnaryOp.TheVariants as front
-use Rattle.c_syntax.specs.Shape.{int, NoteShape, typed, number, unary, NodeShape, node, leaf, prefix, NodeShapes, more_nodes}
+use Rattle.c_syntax.specs.Shape.{int, number, unary, NodeShape, node, leaf, prefix, NodeShapes, more_nodes}
 use Rattle.c_type_rules.specs.Kinds.{promote, constant_type}
 use Rattle.c_type_rules.specs.declared.kinds.Radix.{Radix}
 use Rattle.c_type_rules.specs.declared.kinds.Radix.TheVariants.{Octal, Decimal}
@@ -16,17 +16,17 @@ use Rattle.c_constants.specs.Numbers.{number_of, suffix}
 use Rattle.c_constants.specs.Numbers as numbers
 use Rattle.c_constants.specs.Constants as constants
 use Rattle.c_tree.specs.Complaints.{not_constant, wrong_type}
-use Rattle.c_tree.specs.State.{State, step, steps, demand}
+use Rattle.c_tree.specs.State.{State, step, demand}
 use Rattle.c_tree.specs.Rulings.{of_kind, allowed_if, rule}
-use Rattle.c_tree.specs.Sorts.{Sort, a_value, TypedNode, Formed, formed, plainly, comes_to, note_of, cleared, noted, pos_in}
-use Rattle.c_tree.specs.Operators.{number_sort, has_value, typed_unary, wrapped, is_there, constant_rule}
-use Rattle.c_tree.specs.Parts.{TypedCases, one_case, judged_constant}
+use Rattle.c_tree.specs.Sorts.{a_value, TypedNode, Formed, formed, plainly, comes_to, note_of, cleared, noted, pos_in}
+use Rattle.c_tree.specs.Operators.{number_sort, has_value, typed_unary, wrapped, is_there}
+use Rattle.c_tree.specs.Parts.{TypedCases, judged_constant}
 use Rattle.c_tree.specs.Typing.{type_node, type_cases}
 use Rattle.c_walk.specs.Tests.{number_constant, case_value}
 use Rattle.probe_rules.specs.Marks.{decimal_kind, number_at, constant_at, constants_at}
 use Rattle.probe_rules.proofs.ReadNumbers.{number_again, zero_again}
 use Rattle.probe_rules.proofs.SelectConstants.{highest, lowest, constant_read}
-use Rattle.probe_cases.specs.Cases.{IsFurther, IsTyped, AreTyped, AreInRange, ConstantsAreTyped, ListsAreTyped}
+use Rattle.probe_cases.specs.Cases.{IsFurther, IsTyped, AreInRange, ConstantsAreTyped, ListsAreTyped}
 
 -- ---- states
 

@@ -1,5 +1,5 @@
 -- What is typed of the constants of a select probe, and which constants a switch has.
-use Rattle.std.specs.Prelude.{◌≡◌, ◌⊎◌, ℕ, ◌≤◌, ℤ, List, [], ◌∷◌, length, map, true, Option, Some, None}
+use Rattle.std.specs.Prelude.{◌≡◌, ◌⊎◌, ℕ, ◌≤◌, ℤ, List, [], ◌∷◌, length, map, true, Some, None}
 use Rattle.std.specs.Fmt.{decimal}
 use Rattle.c_base.specs.declared.place.Pos.{Pos}
 use Rattle.c_base.specs.declared.place.IntKind.{IntKind}
