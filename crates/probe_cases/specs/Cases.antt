@@ -116,19 +116,19 @@ pub record Stands (j : IntKind) (b : NodeShape) (s : State) : Type 0 where
   pub kind : (type_node b s).sort.kind ≡ Some (int j)
   pub clean : is_clean s (type_node b s).state ≡ true
 
--- the state behind the number and the constants of a select probe that stands at that place
+-- the state before the constants of a select probe that stands at that place: its number is claimed
 abbrev pub begun : Walked → Pos → State → State
 begun w p s = steps 3 (claim test (decimal (next_decision w)) s.at p s)
 
--- A select probe is typed as it stands, as an integer that is no constant, and without complaint: where its number is claimed, its constants are
--- different values of the promoted type, and its expression stands behind them.
+-- A select probe is typed as it stands, as an integer that is no constant, and the state behind it is one token behind that of its expression:
+-- where its number is claimed without complaint, its constants are different values of the promoted type, and its expression stands behind them.
 abbrev pub SelectsAreTyped : Type 0
 SelectsAreTyped = (j : IntKind) (zs : List ℤ) → AreInRange (promote j) zs → AreDifferent zs → (w : Walked) (b : NodeShape) (s : State) →
     is_clean s (begun w (pos_of b) s) ≡ true → ((t : State) → IsFurther (begun w (pos_of b) s) t → Stands j b t) →
     let y = type_node (in_select zs w b) s in
     (y.node ≡ in_select zs w b) × (y.sort ≡ a_value (Some (int j)) No) × ((t : State) × IsFurther (begun w (pos_of b) s) t × (y.state ≡ step (type_node b t).state))
 
--- What a switch chooses by stands with its probes, the select probe among them, where it stands without that one behind its constants.
+-- What a switch chooses by stands with its probes, the select probe among them, where with the others alone it stands behind that one's constants.
 abbrev pub KeepsChoice : FormShape → Type 0
 KeepsChoice (switch e items) = (j : IntKind) → choosing e ≡ Some (promote j) → (d : Around) (w : Walked) (s : State) →
     let b = probed_node (inside d w) Read e (with_decision (pos_of e) (cases (case_values (choosing e) items)) w) in
