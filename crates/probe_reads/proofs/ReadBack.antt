@@ -46,7 +46,7 @@ none_left (c ∷ cs) e = absurd (subst HasComplaint e tt)
 typed_as : (u v : UnitShape) → EqualButForPlaces v (bare_unit u) → typed_unit v ≡ type_unit (Some (bodies (bare_unit u))) v
 typed_as u v e = ap (λ b. type_unit (Some b) v) (bodies_alike v (bare_unit u) e)
 
-shaped_program : (P : Source) → IsProgram P.unit P.tables → ShapedUnit (bare_unit P.unit)
+pub shaped_program : (P : Source) → IsProgram P.unit P.tables → ShapedUnit (bare_unit P.unit)
 shaped_program P is =
     let source = is.source in
     subst ShapedUnit (sym (ap bare_unit is.typed ∙ (unit_bare (Some (bodies source)) source ∙ shaped_bare source is.sound.shaped))) is.sound.shaped
