@@ -1,13 +1,21 @@
 -- A kept text is read as its program with probes but for places, which runs as the program; so `run` on it says what the program's run says.
 use Rattle.std.specs.Io.KnownBytes.{append_known}
-use Rattle.std.proofs.Common.{◌≡◌, ◌≤◌, ℕ, List, length, Some, is_some, ◌∙◌, sym, ap, ap₂, subst, arith}
+use Rattle.std.specs.Prelude.{cond, nat_lt, min, if◌then◌else◌}
+use Rattle.std.proofs.Common.{◌≡◌, ◌≤◌, ◌+◌, ℕ, List, length, Option, Some, None, Bool, true, false, is_some, option_map, ◌∙◌, refl, sym, ap, ap₂, subst, arith}
+use Rattle.std.proofs.lemmas.Bool.Decides.{nat_tests}
+use Rattle.atac_facts.specs.Sums.{most}
+use Rattle.atac_facts.specs.Tallies.{count_of}
 use Rattle.c_lex_pieces.specs.Written.{AreBytes}
 use Rattle.c_lex.specs.declared.lexer.TextKind.TheVariants.{Plain}
 use Rattle.c_lex.proofs.Soundness.{given_is_sound}
+use Rattle.c_syntax.specs.declared.tree.ProgramLine.{ProgramLine}
+use Rattle.c_syntax.specs.Shape.{UnitShape}
 use Rattle.c_syntax.specs.Forms.{kinds_of}
 use Rattle.c_syntax.specs.Grammar.{tokens_of}
+use Rattle.c_placing.specs.Unplaced.{unplaced_line, EqualButForPlaces}
 use Rattle.c_placing.proofs.Written.{placed_kinds}
-use Rattle.c_tree.specs.Programs.{IsProgram}
+use Rattle.c_sites_probes.specs.Owned.{owner_of, owned_in}
+use Rattle.c_tree.specs.Programs.{IsProgram, digest_in}
 use Rattle.c_tree.proofs.Bare.{unit_bare}
 use Rattle.c_tree.proofs.Programs.{program_typed}
 use Rattle.c_tree.specs.Units.{typed_unit, bodies}
@@ -15,22 +23,33 @@ use Rattle.c_front.specs.Front.{program}
 use Rattle.c_meaning.specs.Calls.{Source}
 use Rattle.c_meaning.specs.Runs.{Outcome}
 use Rattle.c_meaning.proofs.QuietCalls.{run_is_quiet}
+use Rattle.atac_facts.specs.declared.fact.Fact.{Fact}
+use Rattle.cover_law.specs.Covers.{covers}
+use Rattle.cover_law.proofs.Covering.{same_owners}
 use Rattle.sha2.specs.Sha256.{sha256}
 use Rattle.hex.specs.Hex.{encode_lower}
 use Rattle.trace_file.proofs.Digest.{length-sha256}
 use Rattle.probe_in.proofs.Digests.{read_back}
+use Rattle.probe_laws.specs.Laws.{IsTaken}
+use Rattle.probe_laws.specs.Owners.{owner_in_program}
 use Rattle.probe_laws.proofs.Laws.{taken_is_plain, taken_is_few}
+use Rattle.probe_laws.proofs.Owners.{program_owns, program_owns_few}
 use Rattle.probe_parsed.specs.Readable.{AreLexed}
 use Rattle.probe_parsed.proofs.BareForms.{tokens_same}
 use Rattle.probe_text.specs.Text.{text_in}
-use Rattle.probe_reads.specs.ReadBack.{IsWritten}
+use Rattle.probe_reads.specs.ReadBack.{ReadsAs, IsWritten}
 use Rattle.probe_kept.specs.Kept.{RunsAs}
 use Rattle.probe_written.specs.Written.{IsDigest}
-use Rattle.probe_written.proofs.Whole.{text_runs}
-use Rattle.atac_programs.specs.Programs.{IsAccepted, IsProbed, program_in, with_probes}
+use Rattle.probe_written.proofs.Whole.{text_reads, text_runs}
+use Rattle.atac_programs.specs.Programs.{IsAccepted, IsInstrumented, IsProbed, program_in, with_probes, events, shown_by, met_by, owner_in_probed}
 use Rattle.atac_programs.specs.Sections.{section_text}
-use Rattle.atac_kept.specs.Kept.{KeptTextsRunAsPrograms, KeptTextsShowPrograms}
+use Rattle.atac_base.specs.Outside.{Said}
+use Rattle.trace_file.specs.declared.trace.Trace.{Trace}
+use Rattle.atac_top.specs.Claims.{IsRunnable}
+use Rattle.atac_top.specs.Readings.{IsRunMore}
+use Rattle.atac_kept.specs.Kept.{KeptTextsRunAsPrograms, KeptTextsShowPrograms, KeptTextsRecordPrograms}
 use Rattle.atac_kept.proofs.Digests.{digest_bytes_so, spelling_bytes}
+use Rattle.atac_kept.proofs.Owned.{owned_same}
 
 -- ---- an accepted program, whose tokens a text gives
 
@@ -73,25 +92,74 @@ same_source other Q e =
     let tables : other.tables ≡ Q.tables = cc in
     ap₂ (λ u t. record { unit = u; tables = t }) unit tables
 
+-- ---- its digest and its owners
+
+line_same : (l : Option ProgramLine) → digest_in (option_map unplaced_line l) ≡ digest_in l
+line_same None = refl
+line_same (Some l) = refl
+
+lines_alike : (u v : UnitShape) → EqualButForPlaces u v → digest_in u.line ≡ digest_in v.line
+lines_alike u v e = sym (line_same u.line) ∙ (ap (λ (w : UnitShape). digest_in w.line) e ∙ line_same v.line)
+
+owner_at : (Q P : Source) (source : List ℕ) (u : ℕ) → EqualButForPlaces Q.unit (with_probes source P).unit → IsTaken P → owner_in_probed Q u ≡ owner_in_program P u
+owner_at Q P source u e taken = below (nat_lt u 65536) refl
+  where
+    below : (b : Bool) → nat_lt u 65536 ≡ b → cond b (owner_of u (owned_in Q.unit)) None ≡ owner_in_program P u
+    below true is = ap (owner_of u) (owned_same Q.unit (with_probes source P).unit e) ∙ program_owns P taken (encode_lower (sha256 source)) u
+    below false is = sym (program_owns_few P taken u (grind (arith, nat_tests)))
+
 pub kept_texts_run : KeptTextsRunAsPrograms
 kept_texts_run source text bytes k =
-    let P = program_in k.accepted in
+    let a = k.accepted in
+    let P = program_in a in
     let digest = encode_lower (sha256 source) in
-    let r : RunsAs (text_in (with_probes source P).unit) P = text_runs digest P (spelling_bytes (sha256 source) (digest_bytes_so source)) (digest_so source) (written_so source bytes k.accepted) k.fits in
+    let spelled = spelling_bytes (sha256 source) (digest_bytes_so source) in
+    let is = written_so source bytes a in
+    let r : RunsAs (text_in (with_probes source P).unit) P = text_runs digest P spelled (digest_so source) is k.fits in
+    let w : ReadsAs (text_in (with_probes source P).unit) (with_probes source P).unit P.tables = text_reads digest P spelled (digest_so source) is k.fits in
     let Q : Source = record { unit = r.unit; tables = P.tables } in
+    let one : program w.unit P.tables ≡ program r.unit P.tables = r.alone (program w.unit P.tables) w.read in
+    let unit : w.unit ≡ r.unit = cc in
+    let equal : EqualButForPlaces r.unit (with_probes source P).unit = subst (λ v. EqualButForPlaces v (with_probes source P).unit) unit w.equal in
     record {
       program = Q;
       read = subst (λ t. IsProbed t Q) (sym k.is) r.read;
       alone = λ other h. same_source other Q (r.alone (program other.unit other.tables) (subst (λ t. IsProbed t other) k.is h));
+      line = lines_alike r.unit (with_probes source P).unit equal ∙ read_back (sha256 source) (length-sha256 source) (digest_bytes_so source);
       same = λ input given limit. ap (section_text input) (r.runs given limit) ∙ sym (ap (section_text input) (run_is_quiet P given limit));
       log = λ given limit. ap (λ (o : Outcome). o.log) (r.runs given limit);
+      met = λ given limit f.
+          ap (λ log. covers (owner_in_probed Q) log f) (ap (λ (o : Outcome). o.log) (r.runs given limit))
+          ∙ same_owners (owner_in_probed Q) (owner_in_program P) (λ u. owner_at Q P source u equal a.clean) (events P limit given) f;
     }
 
--- ---- what `run` puts
+-- ---- what `run` puts and keeps
+
+module _ (source text : List ℕ) (bytes : AreBytes source) (k : IsInstrumented source text) where
+  runnable : (says : Said) → says ≡ Some (Some text) → IsRunnable says
+  runnable says held =
+      let kept = kept_texts_run source text bytes k in
+      let short : length text ≤ 67108864 = subst (λ t. length t ≤ 67108864) (sym k.is) k.fits.text in
+      record { held = record { bytes = text; is = held; short = short }; program = kept.program; read = kept.read }
 
 pub kept_texts_show : KeptTextsShowPrograms
 kept_texts_show source text bytes k ws limit name input shelf shelf' out out' held shows i =
     let kept = kept_texts_run source text bytes k in
-    let short : length text ≤ 67108864 = subst (λ t. length t ≤ 67108864) (sym k.is) k.fits.text in
-    shows (record { held = record { bytes = text; is = held; short = short }; program = kept.program; read = kept.read }) i
-    ∙ ap (append_known out.bytes) (kept.same input i.bytes limit)
+    shows (runnable source text bytes k (shelf.says name) held) i ∙ ap (append_known out.bytes) (kept.same input i.bytes limit)
+
+-- a run more, with facts that are the same
+more_same : (old new : Trace) (met shown : Fact → Bool) → ((f : Fact) → met f ≡ shown f) → IsRunMore old new met → IsRunMore old new shown
+more_same old new met shown same more = record {
+  digest = more.digest;
+  runs = more.runs;
+  old_runs = more.old_runs;
+  counts = λ f fit. more.counts f fit ∙ ap (λ b. min (count_of old.tally f + (if b then 1 else 0)) most) (same f);
+  rows = more.rows;
+}
+
+pub kept_texts_record : KeptTextsRecordPrograms
+kept_texts_record source text bytes k ws limit name input trace shelf shelf' out out' held shows i old holds =
+    let kept = kept_texts_run source text bytes k in
+    let P = program_in k.accepted in
+    let r = shows (runnable source text bytes k (shelf.says name) held) i (sha256 source) kept.line old holds in
+    (r.0, more_same old r.0 (met_by kept.program limit i.bytes) (shown_by P limit i.bytes) (kept.met i.bytes limit) r.1, r.3)

@@ -1,2 +1,3 @@
 mod Digests
+mod Owned
 pub mod Kept

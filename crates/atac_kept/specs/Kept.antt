@@ -2,29 +2,45 @@
 use Rattle.std.specs.Prelude.{◌≡◌, ℕ, List, Some}
 use Rattle.std.specs.Io.KnownBytes.{append_known}
 use Rattle.c_lex_pieces.specs.Written.{AreBytes}
+use Rattle.c_tree.specs.Programs.{digest_in}
 use Rattle.c_meaning.specs.Calls.{Source}
 use Rattle.c_meaning.specs.Runs.{run}
+use Rattle.sha2.specs.Sha256.{sha256}
+use Rattle.atac_facts.specs.declared.fact.Fact.{Fact}
+use Rattle.trace_file.specs.Layout.{bytes_of}
+use Rattle.trace_file.specs.declared.trace.Trace.{Trace}
 use Rattle.atac_base.specs.Outside.{ShelfState, SinkState}
-use Rattle.atac_programs.specs.Programs.{IsInstrumented, IsProbed, program_in, section, events}
-use Rattle.atac_words.specs.Words.{Run}
-use Rattle.atac_top.specs.Claims.{IsHeld, Shows}
+use Rattle.atac_programs.specs.Programs.{IsInstrumented, IsProbed, program_in, section, events, shown_by, met_by}
+use Rattle.atac_words.specs.Words.{Run, RunInto}
+use Rattle.atac_top.specs.Claims.{IsHeld, HoldsOld, KeptUnder, Shows}
 use Rattle.atac_top.specs.Answers.{input_most}
+use Rattle.atac_top.specs.Readings.{IsRunMore}
 use Rattle.atac_top.specs.Runs.{Handed}
 
--- the text is one program with probes alone, with the sections and the events of the program's own runs
-pub record IsKeptOf (P : Source) (text : List ℕ) : Type 0 where
+-- the text is one program with probes alone, behind a line with that digest, with the sections, the events and the facts of the
+-- program's own runs
+pub record IsKeptOf (P : Source) (digest text : List ℕ) : Type 0 where
   pub program : Source
   pub read : IsProbed text program
   pub alone : (other : Source) → IsProbed text other → other ≡ program
+  pub line : digest_in program.unit.line ≡ Some digest
   pub same : (input bytes : List ℕ) (limit : ℕ) → section input program bytes limit ≡ section input P bytes limit
   pub log : (bytes : List ℕ) (limit : ℕ) → (run program bytes limit).log ≡ events P limit bytes
+  pub met : (bytes : List ℕ) (limit : ℕ) (f : Fact) → met_by program limit bytes f ≡ shown_by P limit bytes f
 
 -- so is each text that is made of an accepted text and its digest
 abbrev pub KeptTextsRunAsPrograms : Type 0
-KeptTextsRunAsPrograms = (source text : List ℕ) → AreBytes source → (k : IsInstrumented source text) → IsKeptOf (program_in k.accepted) text
+KeptTextsRunAsPrograms = (source text : List ℕ) → AreBytes source → (k : IsInstrumented source text) → IsKeptOf (program_in k.accepted) (sha256 source) text
 
 -- where the shelf holds it under the name, what `run` puts is the section of the program's own run
 abbrev pub KeptTextsShowPrograms : Type 1
 KeptTextsShowPrograms = (source text : List ℕ) → AreBytes source → (k : IsInstrumented source text)
     → (ws : Handed) (limit : ℕ) (name input : List ℕ) (shelf shelf' : ShelfState) (out out' : SinkState) → shelf.says name ≡ Some (Some text) → Shows ws (Run limit name input) shelf shelf' out out'
     → (i : IsHeld (shelf.says input) input_most) → out'.bytes ≡ append_known out.bytes (section input (program_in k.accepted) i.bytes limit)
+
+-- and the trace that it keeps is the old one with one run more, in which the facts of the program's own run were met
+abbrev pub KeptTextsRecordPrograms : Type 1
+KeptTextsRecordPrograms = (source text : List ℕ) → AreBytes source → (k : IsInstrumented source text)
+    → (ws : Handed) (limit : ℕ) (name input trace : List ℕ) (shelf shelf' : ShelfState) (out out' : SinkState) → shelf.says name ≡ Some (Some text) → Shows ws (RunInto limit name input trace) shelf shelf' out out'
+    → (i : IsHeld (shelf.says input) input_most) (old : Trace) → HoldsOld (sha256 source) (shelf.says trace) old
+    → (new : Trace) × IsRunMore old new (shown_by (program_in k.accepted) limit i.bytes) × KeptUnder shelf shelf' trace (bytes_of new)

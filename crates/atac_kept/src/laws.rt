@@ -1,6 +1,6 @@
 //! The laws, as contracts.
 
-ghost use Rattle.atac_kept.specs.Kept.{KeptTextsRunAsPrograms, KeptTextsShowPrograms};
+ghost use Rattle.atac_kept.specs.Kept.{KeptTextsRunAsPrograms, KeptTextsShowPrograms, KeptTextsRecordPrograms};
 
 /// A text that is kept of an accepted program is read as one program with probes alone, whose runs have the sections of the
 /// program's own runs, and log its events.
@@ -13,4 +13,10 @@ pub fn kept_texts_run_as_programs()
 #[tactic(auto, using(crate::proofs::Kept::kept_texts_show))]
 pub fn kept_texts_show_programs()
     ensures { KeptTextsShowPrograms }
+{}
+
+/// And the trace that it keeps is the old one with one run more, in which the facts of the program's own run were met.
+#[tactic(auto, using(crate::proofs::Kept::kept_texts_record))]
+pub fn kept_texts_record_programs()
+    ensures { KeptTextsRecordPrograms }
 {}
