@@ -3,7 +3,6 @@
 ghost use Rattle.probe_written.specs.Written.{ProbedIsTypedAs, TextReadsAs, TextRunsAs};
 
 /// A program with its probes, typed without its notes, has them again, with the program's tables and no complaint.
-#[tactic(auto, using(crate::proofs::Whole::probed_is_typed))]
 pub fn probed_is_typed_as()
     ensures { ProbedIsTypedAs }
 {}
