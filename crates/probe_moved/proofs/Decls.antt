@@ -1,25 +1,22 @@
 -- Initialisers, parameters, functions and declarations without probes are typed alike from states that are alike.
-use Rattle.std.proofs.Common.{◌≡◌, ℕ, ◌+◌, List, [], ◌∷◌, Option, Some, None, Bool, true, false, refl, sym, ap, ap₂, subst}
+use Rattle.std.proofs.Common.{◌≡◌, ℕ, List, [], ◌∷◌, Option, Some, None, Bool, true, false, refl, sym, ap, ap₂, subst}
 use Rattle.std.specs.Prelude.{nat_eq, nat_le, ◌||◌}
 use Rattle.c_base.specs.declared.place.Pos.{Pos}
 use Rattle.c_base.specs.declared.place.IntKind.TheVariants.{Char}
-use Rattle.c_syntax.specs.declared.text.Text.{Text}
 use Rattle.c_syntax.specs.declared.tree.Named.{Named}
 use Rattle.c_syntax.specs.declared.tree.Star.{Star}
 use Rattle.c_syntax.specs.Shape.{TypeOf, int, NodeShape, LengthShapes, SpecShapes, DeclShape, decl, DeclShapes, no_decls, more_decls, DeclaratorShape, declarator, DeclaratorShapes, no_declarators, more_declarators, arrays, function, ParamsShape, empty, void, params, MaybeInit, no_init, one_init, InitShape, one, listed, InitShapes, no_inits, more_inits}
 use Rattle.c_tables.specs.Rows.{first_place, text_of, name_pos}
 use Rattle.c_tree.specs.State.{Seen, State, steps, step, complain}
 use Rattle.c_tree.specs.Rulings.{rule, kind_at, of_kind, allowed_if}
-use Rattle.c_tree.specs.Sorts.{TypedNode, pos_in}
-use Rattle.c_tree.specs.Operators.{hushed}
+use Rattle.c_tree.specs.Sorts.{pos_in}
 use Rattle.c_tree.specs.Parts.{pointed, star_tokens, unspelled, spelled_rule}
-use Rattle.c_tree.specs.Typing.{type_node, type_specs, type_lengths}
 use Rattle.c_tree.specs.Initialisers.{lengths_with, TypedInit, chars_of, filled, form_in, constant_init, fits, one_init_of, Slots, slots, list_rule, slot, slot_rule, further, init_pos, TypedInits, list_end, type_init, type_inits}
-use Rattle.c_tree.specs.Declaring.{name_tokens, claim_name, token_of_name, variable_rule, has_init, TypedMaybeInit, type_maybe_init, TypedDeclarator, type_variable, TypedParam, TypedParams, parameter_rule, type_param, type_param_list, TypedSignature, type_params, opened_scope, TypedFunction, type_function, type_declarator, TypedDeclarators, type_declarators, none_declared, semicolon, TypedDecl, type_decl, TypedDeclList, type_decls}
+use Rattle.c_tree.specs.Declaring.{name_tokens, token_of_name, has_init, TypedMaybeInit, type_maybe_init, TypedDeclarator, type_variable, TypedParam, TypedParams, type_param, type_param_list, TypedSignature, type_params, TypedFunction, type_function, type_declarator, TypedDeclarators, type_declarators, none_declared, semicolon, TypedDecl, type_decl, TypedDeclList, type_decls}
 use Rattle.c_sites_probes.specs.Marked.{first, name_mark, node_mark, lengths_mark, specs_mark, decl_mark, decls_mark, declarator_mark, declarators_mark, params_mark, maybe_init_mark, init_mark, inits_mark}
 use Rattle.probe_rules.proofs.ReadyUnits.{none_first, none_second}
 use Rattle.probe_rules.proofs.Moved.{Alike, steps_alike, complain_alike, rule_alike, ruled_alike, outside_alike, quiet_alike, node_alike, lengths_alike, specs_alike}
-use Rattle.probe_moved.proofs.States.{rooms_same, file_same, quiet_same, function_same, slots_same, claim_name_alike, variable_rule_same, judged_variable_alike, no_params_alike, parameter_rule_same, judged_parameter_alike, opened_scope_alike, closed_params_alike, judged_function_alike}
+use Rattle.probe_moved.proofs.States.{file_same, quiet_same, function_same, slots_same, claim_name_alike, variable_rule_same, judged_variable_alike, no_params_alike, parameter_rule_same, judged_parameter_alike, opened_scope_alike, closed_params_alike, judged_function_alike}
 
 module _ (n m : ℕ) (seen : Seen) where
   -- ---- what comes of a declaration

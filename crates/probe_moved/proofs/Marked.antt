@@ -1,23 +1,22 @@
 -- Variables and parameters with probes round their names are typed as those without, once the probe's number is claimed.
-use Rattle.std.proofs.Common.{◌≡◌, ℕ, ◌+◌, List, [], Option, Some, None, Bool, true, false, refl, sym, ap, ap₂, subst, ◌∙◌}
+use Rattle.std.proofs.Common.{◌≡◌, ℕ, List, [], Option, Some, None, Bool, true, false, refl, sym, ap, subst, ◌∙◌}
 use Rattle.std.specs.Prelude.{nat_eq, ◌||◌}
 use Rattle.c_base.specs.declared.place.Pos.{Pos}
 use Rattle.c_syntax.specs.declared.tree.Named.{Named}
 use Rattle.c_syntax.specs.declared.tree.ProbeMark.{ProbeMark}
 use Rattle.c_syntax.specs.declared.tree.Star.{Star}
-use Rattle.c_syntax.specs.Shape.{TypeOf, def, LengthShapes, SpecShapes, arrays, MaybeInit, declarator, decl, more_declarators, no_declarators}
-use Rattle.c_tables.specs.Rows.{first_place}
+use Rattle.c_syntax.specs.Shape.{TypeOf, def, LengthShapes, SpecShapes, MaybeInit}
 use Rattle.c_tree.specs.State.{Seen, State, steps}
-use Rattle.c_tree.specs.Rulings.{rule, kind_at}
+use Rattle.c_tree.specs.Rulings.{kind_at}
 use Rattle.c_tree.specs.Operators.{claim}
-use Rattle.c_tree.specs.Parts.{Length, TypedLengths, pointed, star_tokens, unspelled, spelled_rule, TypedSpecs}
+use Rattle.c_tree.specs.Parts.{Length, TypedLengths, pointed, star_tokens, unspelled, spelled_rule}
 use Rattle.c_tree.specs.Typing.{type_specs, type_lengths}
 use Rattle.c_tree.specs.Initialisers.{lengths_with}
-use Rattle.c_tree.specs.Declaring.{name_tokens, claim_name, token_of_name, variable_rule, has_init, parameter_rule, type_param}
-use Rattle.c_sites_probes.specs.Marked.{name_mark, lengths_mark, maybe_init_mark}
-use Rattle.probe_rules.proofs.Moved.{Alike, AlikeSpecs, lengths_alike}
+use Rattle.c_tree.specs.Declaring.{name_tokens, claim_name, token_of_name, variable_rule, has_init, type_param}
+use Rattle.c_sites_probes.specs.Marked.{name_mark, lengths_mark}
+use Rattle.probe_rules.proofs.Moved.{Alike, lengths_alike}
 use Rattle.probe_moved.specs.Moved.{marked, behind_stars}
-use Rattle.probe_moved.proofs.States.{tokens_alike, met_alike, unclaimed, variable_rule_same, judged_variable, judged_variable_alike, parameter_rule_same, judged_parameter, judged_parameter_alike}
+use Rattle.probe_moved.proofs.States.{tokens_alike, met_alike, unclaimed, variable_rule_same, judged_variable, judged_variable_alike, parameter_rule_same, judged_parameter_alike}
 
 -- the lengths of a variable, its type, and what is known before its initialiser
 abbrev pub variable_lengths : List Star → Option Named → LengthShapes → MaybeInit → State → TypedLengths

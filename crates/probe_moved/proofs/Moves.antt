@@ -1,14 +1,12 @@
 -- What is typed of declarations and labels in a state that was changed so, and of declared names with probes.
-use Rattle.std.proofs.Common.{◌≡◌, ℕ, ◌+◌, length, List, Option, Some, refl, ap₂, arith}
+use Rattle.std.proofs.Common.{ℕ, length, List, Some, refl, ap₂, arith}
 use Rattle.std.specs.Prelude.{nat_eq}
 use Rattle.c_syntax.specs.declared.tree.ProbeMark.{ProbeMark}
-use Rattle.c_syntax.specs.Shape.{def, DeclShapes, LabelShape, declarator, arrays}
+use Rattle.c_syntax.specs.Shape.{def, declarator, arrays}
 use Rattle.c_tree.specs.State.{Seen, State, steps}
 use Rattle.c_tree.specs.Operators.{claim}
 use Rattle.c_tree.specs.Parts.{star_tokens}
 use Rattle.c_tree.specs.declared.meaning.Complaint.{Complaint}
-use Rattle.c_tree.specs.Stating.{Labels, type_labels}
-use Rattle.c_tree.specs.Declaring.{type_decls}
 use Rattle.c_sites_probes.specs.Marked.{first, name_mark, lengths_mark, maybe_init_mark}
 use Rattle.probe_moved.specs.Moved.{moved, Moves, DeclarationsMove, LabelsMove, marked, Claims, MarkedVariables, behind_stars, MarkedParameters}
 use Rattle.probe_rules.proofs.ReadyUnits.{none_first, none_second}

@@ -1,19 +1,19 @@
 -- Labels, and expressions of statements, are typed alike from states that are alike.
-use Rattle.std.proofs.Common.{◌≡◌, ℕ, ℤ, List, [], ◌∷◌, Option, Some, None, Bool, refl, sym, ap, ap₂, subst}
+use Rattle.std.proofs.Common.{◌≡◌, ℕ, ℤ, List, [], ◌∷◌, Option, Some, None, refl, sym, ap, ap₂, subst}
 use Rattle.std.specs.Prelude.{not}
 use Rattle.c_base.specs.declared.place.Pos.{Pos}
-use Rattle.c_syntax.specs.Shape.{TypeOf, NodeShape, MaybeNode, no_node, one_node, LabelShape, case, default}
+use Rattle.c_syntax.specs.Shape.{TypeOf, MaybeNode, no_node, one_node, LabelShape, case, default}
 use Rattle.c_constants.specs.Constants as constants
 use Rattle.c_type_rules.specs.Verdicts.{truth_type, promoted_type}
-use Rattle.c_tree.specs.State.{Seen, State, step, steps}
+use Rattle.c_tree.specs.State.{Seen, State, step}
 use Rattle.c_tree.specs.Rulings.{Ruled, by, rule}
 use Rattle.c_tree.specs.Sorts.{Sort, TypedNode, pos_in}
 use Rattle.c_tree.specs.Operators.{constant_rule}
 use Rattle.c_tree.specs.Typing.{type_node}
 use Rattle.c_tree.specs.Stating.{Labels, tested, switched, TypedMaybe, type_maybe, type_test, result_rule, type_result, comes_twice, as_kind, case_state, default_state, case_labels, default_labels, TypedLabels, type_labels}
-use Rattle.c_sites_probes.specs.Marked.{node_mark, maybe_mark, label_mark, labels_mark}
+use Rattle.c_sites_probes.specs.Marked.{node_mark, maybe_mark, labels_mark}
 use Rattle.probe_rules.proofs.ReadyUnits.{none_first, none_second}
-use Rattle.probe_rules.proofs.Moved.{Alike, AlikeNode, steps_alike, complain_alike, demand_alike, rule_alike, judged_by, node_alike}
+use Rattle.probe_rules.proofs.Moved.{Alike, steps_alike, complain_alike, demand_alike, rule_alike, judged_by, node_alike}
 
 module _ (n m : ℕ) (seen : Seen) where
   -- ---- expressions in statements

@@ -1,32 +1,29 @@
 -- What declarations and statements change of what is known, they change alike of states that are alike.
-use Rattle.std.proofs.Common.{◌≡◌, ℕ, ◌+◌, List, [], ◌∷◌, length, map, Option, Some, None, Bool, true, false, refl, sym, ap, ap₂, subst, ◌∙◌}
-use Rattle.std.specs.Prelude.{nat_eq, not, min, is_some, ◌&&◌, ◌^◌, ◌-◌}
+use Rattle.std.proofs.Common.{◌≡◌, ℕ, ◌+◌, List, [], ◌∷◌, length, Option, Some, None, Bool, true, false, refl, sym, ap, ap₂, subst, ◌∙◌}
+use Rattle.std.specs.Prelude.{not, min, is_some, ◌&&◌, ◌^◌, ◌-◌}
 use Rattle.c_base.specs.declared.place.Pos.{Pos}
 use Rattle.c_syntax.specs.declared.text.Text.{Text}
 use Rattle.c_syntax.specs.declared.tree.Named.{Named}
 use Rattle.c_syntax.specs.declared.tree.ProbeMark.{ProbeMark}
 use Rattle.c_syntax.specs.declared.tree.ProgramLine.{ProgramLine}
-use Rattle.c_syntax.specs.declared.tree.Star.{Star}
 use Rattle.c_syntax.specs.Shape.{TypeOf, int, pointer, array, structure, nothing}
 use Rattle.c_type_rules.specs.Verdicts.{result_type}
-use Rattle.c_type_rules.specs.Layouts.{Measure}
 use Rattle.c_constants.specs.Probes.{digest_of}
-use Rattle.c_scopes.specs.Rows.{Scope, Scoped}
 use Rattle.c_scopes.specs.Scoping.{find_here, entered}
 use Rattle.c_tables.specs.Tables.{TablesShape, with_definition}
-use Rattle.c_tables.specs.Rows.{name_pos, text_of}
+use Rattle.c_tables.specs.Rows.{name_pos}
 use Rattle.c_tree.specs.declared.meaning.Complaint.{Complaint}
 use Rattle.c_tree.specs.declared.meaning.Entity.{Entity}
 use Rattle.c_tree.specs.declared.meaning.Entity.TheVariants as entity
 use Rattle.c_tree.specs.State.{Seen, State, steps, demand, Numbered, numbered_or, pushed_function, mention, function_number}
-use Rattle.c_tree.specs.Rulings.{Ruled, by, rule, kind_at}
-use Rattle.c_tree.specs.Parts.{Length, pointed, outside, with_name}
-use Rattle.c_tree.specs.Initialisers.{Slots, slots}
-use Rattle.c_tree.specs.Declaring.{next_variable, with_constants, claim_mark, claim_name, with_row, with_variable, variable_at, declare_variable, variable_rule, with_parameter, parameter_at, declare_parameter, parameter_rule, name_demand, opened_scope, closed_scope, closed_params, all_kinds, Signature, signature_of, function_entity, same_function, names_function, is_defined, function_at, unclear_at, bodied, mentioned, declare_function, TypedFunction}
+use Rattle.c_tree.specs.Rulings.{by, rule, kind_at}
+use Rattle.c_tree.specs.Parts.{Length, outside, with_name}
+use Rattle.c_tree.specs.Initialisers.{slots}
+use Rattle.c_tree.specs.Declaring.{next_variable, with_constants, claim_mark, claim_name, with_variable, variable_at, declare_variable, variable_rule, with_parameter, parameter_at, declare_parameter, parameter_rule, name_demand, opened_scope, closed_scope, closed_params, all_kinds, Signature, signature_of, function_entity, same_function, names_function, is_defined, function_at, unclear_at, bodied, mentioned, declare_function, TypedFunction}
 use Rattle.c_tree.specs.Units.{variable_of, with_variables, numbers_from, begun_function, ended_function, type_line}
 use Rattle.c_sites_probes.specs.Marked.{mark_in, name_mark}
 use Rattle.probe_rules.proofs.ReadyUnits.{some_none}
-use Rattle.probe_rules.proofs.Moved.{moved, Alike, Counts, moves, on_moved, steps_alike, complain_alike, demand_alike, rule_alike, ruled_alike, outside_alike}
+use Rattle.probe_rules.proofs.Moved.{moved, Alike, Counts, moves, on_moved, complain_alike, demand_alike, ruled_alike, outside_alike}
 
 -- a variable and a parameter, behind their lengths, and a function, behind its parentheses
 abbrev pub judged_variable : ℕ → Pos → Text → List Length → Option TypeOf → State → State
