@@ -43,11 +43,13 @@ use Rattle.probe_written.specs.Written.{IsDigest}
 use Rattle.probe_written.proofs.Whole.{text_reads, text_runs}
 use Rattle.atac_programs.specs.Programs.{IsAccepted, IsInstrumented, IsProbed, program_in, with_probes, events, shown_by, met_by, owner_in_probed}
 use Rattle.atac_programs.specs.Sections.{section_text}
-use Rattle.atac_base.specs.Outside.{Said}
+use Rattle.atac_base.specs.Outside.{ShelfState, SinkState}
 use Rattle.trace_file.specs.declared.trace.Trace.{Trace}
-use Rattle.atac_top.specs.Claims.{IsRunnable}
+use Rattle.atac_words.specs.Words.{Run, RunInto}
+use Rattle.atac_top.specs.Claims.{Shows}
+use Rattle.atac_top.specs.Runs.{Handed}
 use Rattle.atac_top.specs.Readings.{IsRunMore}
-use Rattle.atac_kept.specs.Kept.{KeptTextsRunAsPrograms, KeptTextsShowPrograms, KeptTextsRecordPrograms}
+use Rattle.atac_kept.specs.Kept.{KeptTextsRunAsPrograms, RunShows, RunIntoShows, KeptTextsShowPrograms, KeptTextsRecordPrograms}
 use Rattle.atac_kept.proofs.Digests.{digest_bytes_so, spelling_bytes}
 use Rattle.atac_kept.proofs.Owned.{owned_same}
 
@@ -135,17 +137,21 @@ kept_texts_run source text bytes k =
 
 -- ---- what `run` puts and keeps
 
-module _ (source text : List ℕ) (bytes : AreBytes source) (k : IsInstrumented source text) where
-  runnable : (says : Said) → says ≡ Some (Some text) → IsRunnable says
-  runnable says held =
-      let kept = kept_texts_run source text bytes k in
-      let short : length text ≤ 67108864 = subst (λ t. length t ≤ 67108864) (sym k.is) k.fits.text in
-      record { held = record { bytes = text; is = held; short = short }; program = kept.program; read = kept.read }
+-- the contract of the call says so of both commands
+run_shows : (ws : Handed) (limit : ℕ) (name input : List ℕ) (shelf shelf' : ShelfState) (out out' : SinkState) → Shows ws (Run limit name input) shelf shelf' out out' → RunShows limit name input shelf out out'
+run_shows ws limit name input shelf shelf' out out' shows = shows
+
+run_into_shows : (ws : Handed) (limit : ℕ) (name input trace : List ℕ) (shelf shelf' : ShelfState) (out out' : SinkState) → Shows ws (RunInto limit name input trace) shelf shelf' out out' → RunIntoShows limit name input trace shelf shelf' out out'
+run_into_shows ws limit name input trace shelf shelf' out out' shows = shows
+
+short_so : (source text : List ℕ) (k : IsInstrumented source text) → length text ≤ 67108864
+short_so source text k = subst (λ t. length t ≤ 67108864) (sym k.is) k.fits.text
 
 pub kept_texts_show : KeptTextsShowPrograms
-kept_texts_show source text bytes k ws limit name input shelf shelf' out out' held shows i =
+kept_texts_show source text bytes k limit name input shelf out out' held shows i =
     let kept = kept_texts_run source text bytes k in
-    shows (runnable source text bytes k (shelf.says name) held) i ∙ ap (append_known out.bytes) (kept.same input i.bytes limit)
+    shows (record { held = record { bytes = text; is = held; short = short_so source text k }; program = kept.program; read = kept.read }) i
+    ∙ ap (append_known out.bytes) (kept.same input i.bytes limit)
 
 -- a run more, with facts that are the same
 more_same : (old new : Trace) (met shown : Fact → Bool) → ((f : Fact) → met f ≡ shown f) → IsRunMore old new met → IsRunMore old new shown
@@ -158,8 +164,8 @@ more_same old new met shown same more = record {
 }
 
 pub kept_texts_record : KeptTextsRecordPrograms
-kept_texts_record source text bytes k ws limit name input trace shelf shelf' out out' held shows i old holds =
+kept_texts_record source text bytes k limit name input trace shelf shelf' out out' held shows i old holds =
     let kept = kept_texts_run source text bytes k in
     let P = program_in k.accepted in
-    let r = shows (runnable source text bytes k (shelf.says name) held) i (sha256 source) kept.line old holds in
+    let r = shows (record { held = record { bytes = text; is = held; short = short_so source text k }; program = kept.program; read = kept.read }) i (sha256 source) kept.line old holds in
     (r.0, more_same old r.0 (met_by kept.program limit i.bytes) (shown_by P limit i.bytes) (kept.met i.bytes limit) r.1, r.3)
