@@ -10,13 +10,11 @@ pub fn kept_texts_run_as_programs()
 {}
 
 /// So `run` on such a text puts the section of the program's own run.
-#[tactic(auto, using(crate::proofs::Kept::kept_texts_show))]
 pub fn kept_texts_show_programs()
     ensures { KeptTextsShowPrograms }
 {}
 
 /// And the trace that it keeps is the old one with one run more, in which the facts of the program's own run were met.
-#[tactic(auto, using(crate::proofs::Kept::kept_texts_record))]
 pub fn kept_texts_record_programs()
     ensures { KeptTextsRecordPrograms }
 {}
