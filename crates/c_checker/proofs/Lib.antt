@@ -1,3 +1,4 @@
 pub mod Apart
 pub mod Fitting
 pub mod Numbering
+pub mod Steps

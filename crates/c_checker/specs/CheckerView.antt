@@ -27,6 +27,7 @@ state_of c = record {
   listed = c.listed;
   seen = seen_of c.seen;
   quiet = c.quiet;
+  side = c.side;
   file = c.file;
   function = c.function;
   known = known_of c.known;

@@ -13,7 +13,7 @@ use c_scopes::scopes::Scopes;
 use c_syntax::tree::CType;
 use c_tables::builtins::Builtin;
 use c_tables::tables::Tables;
-use c_tree::meaning::{Complaint, Entity, Tag};
+use c_tree::meaning::{Complaint, Entity, Side, Tag};
 use c_type_rules::extent::Measured;
 use std::alloc::Global;
 
@@ -28,8 +28,9 @@ pub struct Seen {
 
 /// What is known at a token: how many tokens stand before it; the names and tags in scope (C89, 3.1.2.1 and 3.1.2.3); the
 /// tables; for each structure its room, and whether its member list was begun; the types of the parameters of the list that
-/// is read; the names of the list behind which a body stands; the numbers of probes; whether it stands inside a `sizeof`, and whether at file scope; the number of its function,
-/// or 0; which functions count as defined, where not all do; and the complaints so far.
+/// is read; the names of the list behind which a body stands; the numbers of probes; whether it stands inside a `sizeof`;
+/// where in an assignment the expression stands that begins here; whether it stands at file scope; the number of its
+/// function, or 0; which functions count as defined, where not all do; and the complaints so far.
 #[derive(Drop)]
 pub struct Checker {
     pub alloc: Global,
@@ -43,6 +44,7 @@ pub struct Checker {
     pub listed: Names<Entity>,
     pub seen: Seen,
     pub quiet: bool,
+    pub side: Side,
     pub file: bool,
     pub function: u32,
     pub known: Option<Vec<bool>>,
@@ -72,6 +74,7 @@ impl Checker {
                 defs: Names::new(alloc),
             },
             quiet: false,
+            side: Side::Neither,
             file: true,
             function: 0,
             known,

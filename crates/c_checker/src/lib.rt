@@ -11,4 +11,5 @@ pub mod probes;
 mod rows;
 pub mod ruling;
 mod selects;
+pub mod sides;
 pub mod sort;

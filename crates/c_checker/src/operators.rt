@@ -278,8 +278,9 @@ impl Checker {
         let kind = self.rule(left.left_side(&right), first, pos)?;
         match op {
             None => {
-                let ruling = by(WRONG_TYPE, storing::fits(kind, right.operand()));
-                self.to_value(ruling, token, op_pos, Constant::No)
+                let place = right.place;
+                let judged = storing::assigned(kind, right.operand(), place);
+                self.to_value(by(WRONG_TYPE, judged), token, op_pos, Constant::No)
             }
             Some(op) => {
                 let judged = storing::compound(op, kind, right.kind);

@@ -3,9 +3,9 @@
 ghost use Rattle.std.specs.Prelude.{◌≡◌, None, OnOk, IfOk};
 ghost use Rattle.c_scopes.specs.Scoping.{named};
 ghost use Rattle.c_type_rules.specs.Kinds.{type_in};
-ghost use Rattle.c_type_rules.specs.Verdicts.{truth_type, scalar_type};
+ghost use Rattle.c_type_rules.specs.Verdicts.{truth_type, probed_type};
 ghost use Rattle.c_tree.specs.Rulings.{by, then_rule, of_kind, allowed_if};
-ghost use Rattle.c_tree.specs.Operators.{seen_of, with_seen, claimed, claim, as_decayed, probe_rule, probe_sort, typed_probe};
+ghost use Rattle.c_tree.specs.Operators.{seen_of, with_seen, claimed, claim, as_decayed, is_copied, probe_rule, probe_sort, typed_probe};
 ghost use Rattle.c_checker.specs.CheckerView as views;
 ghost use Rattle.c_checker.specs.CheckerView.{state_of};
 ghost use Rattle.c_checker.specs.RulingView.{ruled_of};
@@ -21,6 +21,7 @@ use c_constants::places;
 use c_constants::probes::probe_number;
 use c_syntax::tree::CType;
 use c_tree::complaints::{STRAY, WRONG_TYPE};
+use c_tree::meaning::Side;
 use c_type_rules::kinds::{decayed, is_scalar};
 use c_type_rules::storing;
 
@@ -77,19 +78,20 @@ impl Checker {
         }
     }
 
-    /// A probe round an expression, behind which the closing parenthesis stands.
+    /// A probe round an expression, on that side of an assignment, behind which the closing parenthesis stands.
     pub fn typed_probe(
         &mut self,
         token: u32,
         pos: Pos,
         probing: Probing,
+        side: Side,
         a: Sort,
     ) -> Result<Typing, NoMemory>
-        ensures typing { IfOk result (λ t. typing_of t ≡ (typed_probe token pos (probing_of probing) (sort_of a) (state_of self.old)).typing) }
-        ensures state { OnOk result (state_of self.new ≡ (typed_probe token pos (probing_of probing) (sort_of a) (state_of self.old)).state) }
+        ensures typing { IfOk result (λ t. typing_of t ≡ (typed_probe token pos (probing_of probing) side (sort_of a) (state_of self.old)).typing) }
+        ensures state { OnOk result (state_of self.new ≡ (typed_probe token pos (probing_of probing) side (sort_of a) (state_of self.old)).state) }
     {
         let constant = a.constant;
-        let kind = self.rule(probe_rule(probing, a), token, pos)?;
+        let kind = self.rule(probe_rule(probing, side, a), token, pos)?;
         self.step();
         match probing {
             Probing::Block | Probing::Test => {
@@ -100,14 +102,27 @@ impl Checker {
     }
 }
 
-// A block round anything; a test round a scalar; the other two round a place of one.
-fn probe_rule(probing: Probing, a: Sort) -> Ruling
-    ensures { ruled_of result ≡ probe_rule (probing_of probing) (sort_of a) }
+// A probe of a definition to the left of `=`, or of a use to the right of a structure's, is one of each cell that is copied.
+fn is_copied(probing: Probing, side: Side) -> bool
+    ensures { result ≡ is_copied (probing_of probing) side }
+{
+    matches!(
+        (probing, side),
+        (Probing::Use, Side::Right) | (Probing::Def, Side::Left)
+    )
+}
+
+// A block round anything; a test round a scalar; the other two round a place of one, or of a structure that is copied.
+fn probe_rule(probing: Probing, side: Side, a: Sort) -> Ruling
+    ensures { ruled_of result ≡ probe_rule (probing_of probing) side (sort_of a) }
 {
     match probing {
         Probing::Block => block_rule(a.kind),
         Probing::Test => test_rule(a.kind),
-        Probing::Use | Probing::Def => place_rule(a),
+        Probing::Use | Probing::Def => {
+            let copied = is_copied(probing, side);
+            place_rule(copied, a)
+        }
     }
 }
 
@@ -135,11 +150,11 @@ fn test_rule(kind: Option<CType>) -> Ruling
     }
 }
 
-// A place of a scalar.
-fn place_rule(a: Sort) -> Ruling
-    ensures { ruled_of result ≡ then_rule (by wrong_type (scalar_type (sort_of a).kind)) (allowed_if (sort_of a).place wrong_type) }
+// A place of a scalar, or of a structure where it is copied.
+fn place_rule(copied: bool, a: Sort) -> Ruling
+    ensures { ruled_of result ≡ then_rule (by wrong_type (probed_type copied (sort_of a).kind)) (allowed_if (sort_of a).place wrong_type) }
 {
-    match by(WRONG_TYPE, storing::scalar_place(a.kind)) {
+    match by(WRONG_TYPE, storing::probed_place(copied, a.kind)) {
         Ruling::Allowed(kind) => allowed_if(a.place, WRONG_TYPE, kind),
         other => other,
     }

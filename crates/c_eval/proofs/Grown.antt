@@ -12,7 +12,8 @@ use Rattle.c_store.specs.declared.value.Value.TheVariants.{Int}
 use Rattle.c_store.specs.declared.value.Pointer.{Pointer}
 use Rattle.c_tables.specs.Tables.{FunctionShape, TablesShape}
 use Rattle.c_tables.specs.Rows.{row}
-use Rattle.c_walk.specs.declared.around.Taken.TheVariants.{Read as Reading}
+use Rattle.c_walk.specs.declared.around.Taken.TheVariants.{Read as Reading, Copied}
+use Rattle.c_walk.specs.Places.{holds_structure}
 use Rattle.c_meaning.specs.State.{State}
 use Rattle.c_meaning.specs.Results.{Got, Gives, then_do, settled, needed}
 use Rattle.c_meaning.specs.Operators.{converted, is_true, operated, stepped_by_one, element_pointer, of_one, target, pointed}
@@ -21,9 +22,10 @@ use Rattle.c_meaning.specs.Places.{marks}
 use Rattle.c_meaning.specs.Constants.{kind_noted, type_at}
 use Rattle.c_meaning.specs.Knot.{Knot}
 use Rattle.c_meaning.specs.Builtins.{called, called_row, as_parameter}
-use Rattle.c_meaning.specs.Expressions.{meaning, arguments, gives, operand, cast_value, tested, last_test}
+use Rattle.c_meaning.specs.Expressions.{meaning, arguments, gives, operand, cast_value, tested, last_test, assigned}
 use Rattle.c_meaning.specs.Lasting.{Lasts, Lasted, Keeps, IsLater}
 use Rattle.c_meaning.proofs.Steadily.{at_rest, then_kept, call_kept, if_kept, settled_kept, present_kept, needed_kept, logs_kept, loaded_kept, fetched_kept, field_kept, written_kept, stepped_kept, built_in_kept}
+use Rattle.c_meaning.proofs.Copies.{copied_kept}
 use Rattle.c_meaning.proofs.SteadyNodes.{node_steady, tested_kept, arm_kept}
 use Rattle.c_meaning.proofs.SteadyRuns.{later_lasts}
 use Rattle.c_eval.specs.declared.frame.Frame.{Frame}
@@ -34,7 +36,7 @@ use Rattle.c_eval.specs.declared.frame.Focus.TheVariants as focus
 use Rattle.c_eval.specs.declared.frame.Step as stepping
 use Rattle.c_eval.specs.declared.frame.Step.TheVariants as step
 use Rattle.c_eval.specs.declared.work.Work.{Work}
-use Rattle.c_eval.specs.Rest.{Gave, Val, Spot, Taker, on_any, on_value, on_place, to_value, to_spot, answer, nothing_waits, on_operand, on_found, on_second, on_written, on_combined, on_comma, waits, does, all_do, rest_of, rest, rest_after}
+use Rattle.c_eval.specs.Rest.{Gave, Val, Spot, Taker, on_any, on_value, on_place, to_value, to_spot, answer, nothing_waits, on_operand, on_found, on_second, on_written, on_combined, on_copied, on_comma, waits, does, all_do, rest_of, rest, rest_after}
 use Rattle.c_eval_once.specs.Parts.{value, place, stepped_there, combined, combined_into, element_at, probed}
 
 -- the relations are kept, whatever is taken
@@ -145,6 +147,11 @@ module _ (R C Q S : State → State → Type 0) (lasts : Lasts R C Q S) (t : Tab
       then_kept R C Q S lasts s _ _ (needed_kept R C Q S lasts s _ ((node_steady R C Q S lasts t k keeps a).value_steady i s)) (λ v s.
       then_kept R C Q S lasts s _ _ (arguments_kept rest (drop 1 ts) _ s) (λ vs s. still R C Q S lasts _ s))
 
+  -- the right side of `=`
+  right_kept : (copies : Bool) (a b : NodeShape) (q : Pointer) (s : State) → Lasted R Q s (assigned copies (type_at a) (marks def a) (marks used b) (meaning t k b) (quiet 0) (quiet 0) q s)
+  right_kept true a b q s = then_kept R C Q S lasts s _ _ ((node_steady R C Q S lasts t k keeps b).place_steady Copied (quiet 0) s) (λ r s. copied_kept R C Q S lasts (marks def a) (marks used b) (quiet 0) (quiet 0) q r s)
+  right_kept false a b q s = then_kept R C Q S lasts s _ _ (wanted_kept b s) (λ v s. written_kept R C Q S lasts (type_at a) (marks def a) (quiet 0) q v s)
+
   module _ (go : Taker) (onward : Onward R Q go) where
     -- a value of the expression's, and a place
     give : (s : State) (r : Got (Option Value)) → Lasted R Q s r → Lasted R Q s (then_do r (to_value go))
@@ -187,7 +194,7 @@ module _ (R C Q S : State → State → Type 0) (lasts : Lasts R C Q S) (t : Tab
     found_on (prefix (before u) a) = place_on R C Q S lasts _ (λ q s. give s _ (stepped_kept_there R C Q S lasts true u a q s))
     found_on (suffix a (behind u)) = place_on R C Q S lasts _ (λ q s. give s _ (stepped_kept_there R C Q S lasts false u a q s))
     found_on (suffix a (field dot x p)) = place_on R C Q S lasts _ (λ q s. give_place s _ (field_kept R C Q S lasts t x (type_at a) q s))
-    found_on (two (assign None) a b) = place_on R C Q S lasts _ (λ q s. give s _ (then_kept R C Q S lasts s _ _ (wanted_kept b s) (λ v s. written_kept R C Q S lasts (type_at a) (marks def a) (quiet 0) q v s)))
+    found_on (two (assign None) a b) = place_on R C Q S lasts _ (λ q s. give s _ (right_kept (holds_structure a) a b q s))
     found_on (two (assign (Some u)) a b) = place_on R C Q S lasts _ (λ q s. give s _ (then_kept R C Q S lasts s _ _ (loaded_kept R C Q S lasts (marks used a) (quiet 0) q s) (λ x s.
         then_kept R C Q S lasts s _ _ (wanted_kept b s) (λ y s. into_kept R C Q S lasts u a b q x y s))))
     found_on (leaf l) = nothing_on R C Q S lasts
@@ -262,6 +269,23 @@ module _ (R C Q S : State → State → Type 0) (lasts : Lasts R C Q S) (t : Tab
     combined_on (choose a b c) q x = nothing_on R C Q S lasts
     combined_on (probe u a) q x = nothing_on R C Q S lasts
 
+    copied_on : (f : ExprShape) (q : Pointer) → Onward R Q (on_copied f q go)
+    copied_on (two (assign None) a b) q = place_on R C Q S lasts _ (λ r s. give s _ (copied_kept R C Q S lasts (marks def a) (marks used b) (quiet 0) (quiet 0) q r s))
+    copied_on (two (assign (Some u)) a b) q = nothing_on R C Q S lasts
+    copied_on (two (plain u) a b) q = nothing_on R C Q S lasts
+    copied_on (two and a b) q = nothing_on R C Q S lasts
+    copied_on (two or a b) q = nothing_on R C Q S lasts
+    copied_on (two comma a b) q = nothing_on R C Q S lasts
+    copied_on (leaf l) q = nothing_on R C Q S lasts
+    copied_on (paren a) q = nothing_on R C Q S lasts
+    copied_on (call y args) q = nothing_on R C Q S lasts
+    copied_on (prefix u a) q = nothing_on R C Q S lasts
+    copied_on (size_of_type y) q = nothing_on R C Q S lasts
+    copied_on (cast y a) q = nothing_on R C Q S lasts
+    copied_on (suffix a u) q = nothing_on R C Q S lasts
+    copied_on (choose a b c) q = nothing_on R C Q S lasts
+    copied_on (probe u a) q = nothing_on R C Q S lasts
+
     comma_on : (f : ExprShape) → Onward R Q (on_comma t k f go)
     comma_on (two comma a b) = any_on R C Q S lasts _ (λ v s. give_place s _ (place_kept b s))
     comma_on (two (plain u) a b) = nothing_on R C Q S lasts
@@ -287,6 +311,7 @@ module _ (R C Q S : State → State → Type 0) (lasts : Lasts R C Q S) (t : Tab
     waits_on n f e wait.Truth = value_on R C Q S lasts _ (λ v s. give s _ (still R C Q S lasts _ s))
     waits_on n f e (wait.Into q) = written_on f q
     waits_on n f e (wait.Combine q x) = combined_on f q x
+    waits_on n f e (wait.Copy q) = copied_on f q
     waits_on n f e wait.Chosen = any_on R C Q S lasts _ (λ v s. onward (Val (option_map (converted (kind_noted n)) v)) s)
     waits_on n f e wait.Comma = comma_on f
     waits_on n f e (wait.Argument kinds others done) = value_on R C Q S lasts _ (λ v s. give s _ (

@@ -19,16 +19,17 @@ use Rattle.c_store.specs.declared.value.Value.{Value}
 use Rattle.c_store.specs.declared.value.Value.TheVariants.{Int, At}
 use Rattle.c_store.specs.declared.value.Pointer.{Pointer}
 use Rattle.c_tables.specs.Tables.{TablesShape}
-use Rattle.c_walk.specs.declared.around.Taken.TheVariants.{Written, Changed, Addressed}
+use Rattle.c_walk.specs.declared.around.Taken.TheVariants.{Written, Changed, Copied, Addressed}
+use Rattle.c_walk.specs.Places.{holds_structure}
 use Rattle.c_meaning.specs.State.{State}
 use Rattle.c_meaning.specs.Results.{Got, Gives, Stops, then_do, settled, present, needed}
 use Rattle.c_meaning.specs.Operators.{converted, of_one, is_true}
 use Rattle.c_meaning.specs.Firsts.{quiet}
-use Rattle.c_meaning.specs.Places.{marks, loaded}
+use Rattle.c_meaning.specs.Places.{marks, loaded, copied}
 use Rattle.c_meaning.specs.Constants.{kind_noted, type_at}
 use Rattle.c_meaning.specs.Knot.{Knot}
 use Rattle.c_meaning.specs.Builtins.{called, params_of, as_parameter}
-use Rattle.c_meaning.specs.Expressions.{meaning, arguments, gives, operand, cast_value, last_test, assigned}
+use Rattle.c_meaning.specs.Expressions.{meaning, arguments, gives, operand, cast_value, last_test, assigned, written}
 use Rattle.c_compute.specs.Narrow.{direction}
 use Rattle.c_eval.specs.declared.frame.Wait.TheVariants as wait
 use Rattle.c_eval_once.specs.declared.reply.Reply.TheVariants as reply
@@ -83,7 +84,7 @@ module _ (t : TablesShape) (k : Knot) (e : Node) (s : State) (go : Taker) where
   address_opens a x is i = rw (i, is) (at_place t k a Addressed s (λ q. gives (At q)) (to_value go))
 
   pub assign_opens : (a b x : NodeShape) → expr_shape e.form ≡ two (assign None) a b → x ≡ a → then_do (place t k x s) (λ q s. waiting t k e wait.Place go (Spot q) s) ≡ then_do (value t k (node_shape e) (one_more s)) (to_value go)
-  assign_opens a b x is i = rw (i, is) (at_place t k a Written s (assigned (type_at a) (marks def a) (meaning t k b) (quiet 0) (quiet 0)) (to_value go))
+  assign_opens a b x is i = rw (i, is) (at_place t k a Written s (assigned (holds_structure a) (type_at a) (marks def a) (marks used b) (meaning t k b) (quiet 0) (quiet 0)) (to_value go))
 
   pub compound_opens : (u : BinaryOp) (a b x : NodeShape) → expr_shape e.form ≡ two (assign (Some u)) a b → x ≡ a → then_do (place t k x s) (λ q s. waiting t k e wait.Place go (Spot q) s) ≡ then_do (value t k (node_shape e) (one_more s)) (to_value go)
   compound_opens u a b x is i = rw (i, is) (at_place t k a Changed s (λ q s. then_do (loaded (marks used a) (quiet 0) q s) (λ x s. then_do (needed (value t k b s)) (combined_into u a b q x))) (to_value go))
@@ -114,6 +115,13 @@ module _ (t : TablesShape) (k : Knot) (e : Node) (s : State) (go : Taker) where
   step_found way.PreDec a q = refl
   step_found way.PostInc a q = refl
   step_found way.PostDec a q = refl
+
+  -- the right side of `=`: another value than a structure is written, a structure is copied
+  pub assigned_written : (a b : NodeShape) (q : Pointer) → expr_shape e.form ≡ two (assign None) a b → holds_structure a ≡ false → then_do (value t k b s) (λ v s. waiting t k e (wait.Into q) go (Val v) s) ≡ on_found t k (expr_shape e.form) go (Spot q) s
+  assigned_written a b q is not = rw (is, not) (needed_then (value t k b s) (λ v. written (type_at a) (marks def a) (quiet 0) q v) (to_value go))
+
+  pub assigned_copied : (a b : NodeShape) (q : Pointer) → expr_shape e.form ≡ two (assign None) a b → holds_structure a ≡ true → then_do (place t k b s) (λ r s. waiting t k e (wait.Copy q) go (Spot r) s) ≡ on_found t k (expr_shape e.form) go (Spot q) s
+  assigned_copied a b q is structured = rw (is, structured) (at_place t k b Copied s (copied (marks def a) (marks used b) (quiet 0) (quiet 0) q) (to_value go))
 
   -- the right operand behind the left one's value
   pub second_opens : (u : BinaryOp) (a b : NodeShape) (v : Value) → expr_shape e.form ≡ two (plain u) a b → then_do (value t k b s) (λ w s. waiting t k e (wait.Second v) go (Val w) s) ≡ waiting t k e wait.Operand go (Val (Some v)) s

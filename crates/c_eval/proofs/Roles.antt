@@ -32,7 +32,7 @@ use Rattle.c_eval.specs.declared.frame.Wait.{Wait}
 use Rattle.c_eval.specs.declared.frame.Wait.TheVariants as wait
 use Rattle.c_eval.proofs.Steps.{then_then, needed_then, frames_push, weights_push}
 use Rattle.c_eval.specs.declared.frame.Frame.{Frame}
-use Rattle.c_eval.specs.Rest.{weights, waits, waiting, wait_weight, Val, Spot, Taker, to_value, to_spot, answer, all_do, on_operand, on_found, on_second, on_written, on_combined, on_comma}
+use Rattle.c_eval.specs.Rest.{weights, waits, waiting, wait_weight, Val, Spot, Taker, to_value, to_spot, answer, all_do, on_operand, on_found, on_second, on_written, on_combined, on_copied, on_comma}
 use Rattle.c_eval_once.specs.Parts.{truth_at, value, place}
 use Rattle.c_eval.specs.Forms.{is_probe, takes_none, has_place, is_bare, is_bare_place}
 use Rattle.c_eval_once.specs.Forms.{Kept, told, standing}
@@ -322,6 +322,23 @@ combined_none (choose a b c) r v go s = refl
 combined_none (probe (simple w x) a) r v go s = refl
 combined_none (probe (select x cs) a) r v go s = refl
 
+pub copied_value : (f : ExprShape) (q : Pointer) (go : Taker) (v : Option Value) (s : State) → on_copied f q go (Val v) s ≡ untyped s
+copied_value (leaf l) q go v s = refl
+copied_value (paren a) q go v s = refl
+copied_value (call x args) q go v s = refl
+copied_value (prefix u a) q go v s = refl
+copied_value (size_of_type y) q go v s = refl
+copied_value (cast y a) q go v s = refl
+copied_value (suffix a u) q go v s = refl
+copied_value (two (plain u) a b) q go v s = refl
+copied_value (two and a b) q go v s = refl
+copied_value (two or a b) q go v s = refl
+copied_value (two (assign None) a b) q go v s = refl
+copied_value (two (assign (Some u)) a b) q go v s = refl
+copied_value (two comma a b) q go v s = refl
+copied_value (choose a b c) q go v s = refl
+copied_value (probe u a) q go v s = refl
+
 pub comma_spot : (t : TablesShape) (k : Knot) (f : ExprShape) (go : Taker) (q : Pointer) (s : State) → on_comma t k f go (Spot q) s ≡ untyped s
 comma_spot t k (leaf l) go q s = refl
 comma_spot t k (paren a) go q s = refl
@@ -390,6 +407,7 @@ none_waits t k e (wait.Second v) go s f = second_none (expr_shape e.form) v go s
 none_waits t k e wait.Truth go s f = refl
 none_waits t k e (wait.Into q) go s f = written_none (expr_shape e.form) q go s
 none_waits t k e (wait.Combine q x) go s f = combined_none (expr_shape e.form) q x go s
+none_waits t k e (wait.Copy q) go s f = copied_value (expr_shape e.form) q go None s
 none_waits t k e (wait.Argument kinds others done) go s f = refl
 
 pub probe_is : (w : Wait) → is_probe w ≡ true → w ≡ wait.Probe
@@ -403,6 +421,7 @@ probe_is (wait.Second v) f = no_yes f
 probe_is wait.Truth f = no_yes f
 probe_is (wait.Into q) f = no_yes f
 probe_is (wait.Combine q x) f = no_yes f
+probe_is (wait.Copy q) f = no_yes f
 probe_is (wait.Argument kinds others done) f = no_yes f
 
 -- a place that is read

@@ -120,6 +120,7 @@ is_probe (wait.Second v) = false
 is_probe wait.Truth = false
 is_probe (wait.Into q) = false
 is_probe (wait.Combine q x) = false
+is_probe (wait.Copy q) = false
 is_probe wait.Chosen = false
 is_probe wait.Comma = false
 is_probe (wait.Argument kinds others done) = false
@@ -136,6 +137,7 @@ takes_none (wait.Second v) = false
 takes_none wait.Truth = false
 takes_none (wait.Into q) = false
 takes_none (wait.Combine q x) = false
+takes_none (wait.Copy q) = false
 takes_none (wait.Argument kinds others done) = false
 
 -- behind it nothing of the node is evaluated
@@ -149,5 +151,6 @@ is_last wait.Operand = false
 is_last wait.Probe = false
 is_last wait.Place = false
 is_last wait.Read = false
+is_last (wait.Copy q) = false
 is_last wait.Comma = false
 is_last (wait.Argument kinds others done) = false

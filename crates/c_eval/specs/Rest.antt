@@ -13,12 +13,13 @@ use Rattle.c_store.specs.declared.value.Value.TheVariants.{Int, At}
 use Rattle.c_store.specs.declared.value.Pointer.{Pointer}
 use Rattle.c_tables.specs.Tables.{TablesShape}
 use Rattle.c_walk.specs.declared.around.Taken.TheVariants.{Read as Reading}
+use Rattle.c_walk.specs.Places.{holds_structure}
 use Rattle.c_walk.specs.Tests.{choosing}
 use Rattle.c_meaning.specs.State.{State}
 use Rattle.c_meaning.specs.Results.{Got, Gives, Stops, then_do, untyped, settled, present, needed}
 use Rattle.c_meaning.specs.Operators.{converted, is_true, operated, stepped_by_one, element_pointer, of_one, target, pointed}
 use Rattle.c_meaning.specs.Firsts.{quiet, outcome}
-use Rattle.c_meaning.specs.Places.{field_place, logs, marks, loaded, fetched}
+use Rattle.c_meaning.specs.Places.{field_place, logs, marks, loaded, fetched, copied}
 use Rattle.c_meaning.specs.Constants.{select_constants, chosen_among, kind_noted, type_at}
 use Rattle.c_meaning.specs.Knot.{Knot}
 use Rattle.c_meaning.specs.Builtins.{called, as_parameter}
@@ -93,7 +94,7 @@ on_found t k (prefix (unary front.AddressOf) a) go = on_place (λ q s. then_do (
 on_found t k (prefix (before u) a) go = on_place (λ q s. then_do (stepped_there true u a q s) (to_value go))
 on_found t k (suffix a (behind u)) go = on_place (λ q s. then_do (stepped_there false u a q s) (to_value go))
 on_found t k (suffix a (field dot x p)) go = on_place (λ q s. then_do (field_place t x (type_at a) q s) (to_spot go))
-on_found t k (two (assign None) a b) go = on_place (λ q s. then_do (assigned (type_at a) (marks def a) (meaning t k b) (quiet 0) (quiet 0) q s) (to_value go))
+on_found t k (two (assign None) a b) go = on_place (λ q s. then_do (assigned (holds_structure a) (type_at a) (marks def a) (marks used b) (meaning t k b) (quiet 0) (quiet 0) q s) (to_value go))
 on_found t k (two (assign (Some u)) a b) go = on_place (λ q s.
     then_do (then_do (loaded (marks used a) (quiet 0) q s) (λ x s. then_do (needed (value t k b s)) (combined_into u a b q x))) (to_value go))
 on_found t k f go = nothing_waits
@@ -113,6 +114,11 @@ abbrev pub on_combined : ExprShape → Pointer → Value → Taker → Taker
 on_combined (two (assign (Some u)) a b) q x go = on_value (λ y s. then_do (combined_into u a b q x y s) (to_value go))
 on_combined f q x go = nothing_waits
 
+-- the place of the structure that is copied
+abbrev pub on_copied : ExprShape → Pointer → Taker → Taker
+on_copied (two (assign None) a b) q go = on_place (λ r s. then_do (copied (marks def a) (marks used b) (quiet 0) (quiet 0) q r s) (to_value go))
+on_copied f q go = nothing_waits
+
 -- the left side of a comma
 abbrev pub on_comma : TablesShape → Knot → ExprShape → Taker → Taker
 on_comma t k (two comma a b) go = on_any (λ v s. then_do (place t k b s) (to_spot go))
@@ -128,6 +134,7 @@ waits t k n f e (wait.Second v) go = on_second f v go
 waits t k n f e wait.Truth go = on_value (λ v s. then_do (truth_at v s) (to_value go))
 waits t k n f e (wait.Into q) go = on_written f q go
 waits t k n f e (wait.Combine q x) go = on_combined f q x go
+waits t k n f e (wait.Copy q) go = on_copied f q go
 waits t k n f e wait.Chosen go = on_any (λ v s. go (Val (option_map (converted (kind_noted n)) v)) s)
 waits t k n f e wait.Comma go = on_comma t k f go
 waits t k n f e (wait.Argument kinds others done) go = on_value (λ v s.
@@ -179,6 +186,7 @@ wait_weight (wait.Second v) = 1
 wait_weight wait.Truth = 1
 wait_weight (wait.Into q) = 1
 wait_weight (wait.Combine q x) = 1
+wait_weight (wait.Copy q) = 1
 wait_weight wait.Chosen = 1
 wait_weight wait.Comma = 1
 wait_weight (wait.Argument kinds others done) = 1

@@ -13,9 +13,9 @@ pub struct Frame<'p> {
 
 /// What a node waits for: the value of its first operand; as a probe the value in it; the place of its operand; its own
 /// place, to be read; the value of its second operand, with that of the first; the truth of its last operand; what is
-/// written into that place, as it is or combined with this value of the place; the operand that `?:` has chosen; the left
-/// side of a comma, whose right side is wanted as a place; an argument, with the types of its parameter and those behind
-/// it, the arguments to come, and those that are done.
+/// written into that place, as it is or combined with this value of the place; the place of the structure that is copied
+/// into that place; the operand that `?:` has chosen; the left side of a comma, whose right side is wanted as a place; an
+/// argument, with the types of its parameter and those behind it, the arguments to come, and those that are done.
 #[derive(Drop)]
 pub enum Wait<'p> {
     Operand,
@@ -26,6 +26,7 @@ pub enum Wait<'p> {
     Truth,
     Into(Pointer),
     Combine(Pointer, Value),
+    Copy(Pointer),
     Chosen,
     Comma,
     Argument(&'p [CType], &'p [Node], Vec<Value>),

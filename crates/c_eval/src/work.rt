@@ -14,6 +14,7 @@ ghost use Rattle.c_eval_once.specs.Forms.{Kept};
 
 mod binary;
 mod calling;
+mod copying;
 mod finishing;
 mod first;
 mod opening;

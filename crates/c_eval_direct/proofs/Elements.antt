@@ -33,7 +33,7 @@ use Rattle.c_meaning.specs.Knot.{Knot}
 use Rattle.c_meaning.specs.Expressions.{meaning, gives, operand, last_test, log_block}
 use Rattle.c_eval_once.specs.Parts.{value, place, truth_at, one_more, combined_into, probed}
 use Rattle.c_eval_once.specs.Forms.{Meets, is_valued, is_address, is_deref, is_of_place, standing, Tells, told}
-use Rattle.c_eval_direct.specs.Direct.{is_direct, is_direct_place, is_judged, parts}
+use Rattle.c_eval_direct.specs.Direct.{is_copied, is_direct, is_direct_place, is_judged, parts}
 use Rattle.c_eval_once.proofs.Told.{tells_one}
 use Rattle.c_eval_once.proofs.Standing.{read_at}
 
@@ -73,8 +73,10 @@ module _ (n : Note) (f : form.Expr) where
   pub or_parts : (a b : Box Node Global) (x y : Node) → is_direct n f ≡ true → f ≡ form.Or a b → x ≡ a.value → y ≡ b.value → (expr_shape f ≡ two or (node_shape x) (node_shape y)) × ((is_direct x.note x.form ≡ true) × (is_direct y.note y.form ≡ true))
   or_parts a b x y one is i j = rw (i, j) (ap expr_shape is, both_true (is_direct a.value.note a.value.form) (is_direct b.value.note b.value.form) (sym (ap (is_direct n) is) ∙ one))
 
-  pub assign_parts : (u v : Option BinaryOp) (a b : Box Node Global) (x y : Node) → is_direct n f ≡ true → f ≡ form.Assign u a b → u ≡ v → x ≡ a.value → y ≡ b.value → (expr_shape f ≡ two (assign v) (node_shape x) (node_shape y)) × ((is_direct_place x.note x.form ≡ true) × (is_direct y.note y.form ≡ true))
-  assign_parts u v a b x y one is way i j = rw (i, j) (ap expr_shape is ∙ ap (λ w. two (assign w) (node_shape a.value) (node_shape b.value)) way, both_true (is_direct_place a.value.note a.value.form) (is_direct b.value.note b.value.form) (sym (ap (is_direct n) is) ∙ one))
+  pub assign_parts : (u v : Option BinaryOp) (a b : Box Node Global) (x y : Node) → is_direct n f ≡ true → f ≡ form.Assign u a b → u ≡ v → x ≡ a.value → y ≡ b.value → (expr_shape f ≡ two (assign v) (node_shape x) (node_shape y)) × ((is_copied x.note ≡ false) × ((is_direct_place x.note x.form ≡ true) × (is_direct y.note y.form ≡ true)))
+  assign_parts u v a b x y one is way i j =
+      let e = not_first (is_copied a.value.note) _ (sym (ap (is_direct n) is) ∙ one) in
+      rw (i, j) (ap expr_shape is ∙ ap (λ w. two (assign w) (node_shape a.value) (node_shape b.value)) way, (e.0, both_true (is_direct_place a.value.note a.value.form) (is_direct b.value.note b.value.form) e.1))
 
   pub unary_parts : (u : UnaryOp) (a : Box Node Global) (x : Node) → is_direct n f ≡ true → f ≡ form.Unary u a → x ≡ a.value → (expr_shape f ≡ prefix (unary u) (node_shape x)) × ((is_address u ≡ false) × (is_direct x.note x.form ≡ true))
   unary_parts u a x one is i =

@@ -5,10 +5,16 @@ use Rattle.c_syntax.specs.declared.tree.Expr.{Expr}
 use Rattle.c_syntax.specs.declared.tree.Expr.TheVariants.{Number, Char, Str, Name, Paren', Index', Unary', Step', SizeOf', SizeOfType, Binary', And', Or', Assign', Probe'}
 use Rattle.c_syntax.specs.declared.tree.ExprProbe.{ExprProbe}
 use Rattle.c_syntax.specs.declared.tree.ExprProbe.TheVariants as probes
+use Rattle.c_syntax.specs.View.{note_shape}
+use Rattle.c_walk.specs.Places.{has_structure}
 use Rattle.c_eval_once.specs.Forms.{is_variable, is_deref, is_address, is_of_place, is_valued, is_name}
 
--- constants and variables; operators but calls, casts, `?:` and commas; elements and what pointers point to; assignments to these, and
--- steps over them; and the probes round these
+-- a structure, which an assignment copies
+abbrev pub is_copied : Note → Bool
+is_copied n = has_structure (note_shape n)
+
+-- constants and variables; operators but calls, casts, `?:` and commas; elements and what pointers point to; assignments to these but
+-- of structures, and steps over them; and the probes round these
 abbrev mutual
   pub is_direct : Note → Expr → Bool
   is_direct n (Number x) = true
@@ -23,7 +29,7 @@ abbrev mutual
   is_direct n (Or' _ p o m a _ p' o' m' b) = if is_direct m a then is_direct m' b else false
   is_direct n (Unary' u _ p o m a) = if is_address u then false else if is_valued n then is_direct m a else false
   is_direct n (Index' _ p o m a _ p' o' m' b) = if is_valued n then if is_direct m a then is_direct m' b else false else false
-  is_direct n (Assign' u _ p o m a _ p' o' m' b) = if is_direct_place m a then is_direct m' b else false
+  is_direct n (Assign' u _ p o m a _ p' o' m' b) = if is_copied m then false else if is_direct_place m a then is_direct m' b else false
   is_direct n (Step' u _ p o m a) = is_direct_place m a
   is_direct n (Probe' u _ p o m a) = if is_of_place u then if is_valued n then is_direct_place m a else false else is_direct m a
   is_direct n _ = false

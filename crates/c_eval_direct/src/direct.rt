@@ -14,7 +14,7 @@ ghost use Rattle.c_meaning.specs.Expressions.{meaning, last_test};
 ghost use Rattle.c_world.specs.World.{state_of};
 ghost use Rattle.c_eval_once.specs.Parts.{value};
 ghost use Rattle.c_eval_once.specs.Forms.{Kept, Meets, Stands, IsAtOnce, IsFewer, IsNearer, is_address, is_deref, is_valued, standing};
-ghost use Rattle.c_eval_direct.specs.Direct.{is_judged, is_direct, is_direct_place};
+ghost use Rattle.c_eval_direct.specs.Direct.{is_copied, is_judged, is_direct, is_direct_place};
 
 use crate::forms::{is_deref, is_direct};
 use crate::parts::{behind_probes, fetch, judge, named, settle, variable};
@@ -357,6 +357,7 @@ fn pointed(tables: &Tables, world: &mut World, node: &Node, a: &Node) -> Spot
 #[inline(always)]
 fn assigned(tables: &Tables, world: &mut World, node: &Node, a: &Node, b: &Node) -> Answer
     requires form { expr_shape node.now.form ≡ two (assign None) (node_shape a.now) (node_shape b.now) }
+    requires scalar { is_copied a.now.note ≡ false }
     requires left { is_direct_place a.now.note a.now.form ≡ true }
     requires right { is_direct b.now.note b.now.form ≡ true }
     ensures is { (k : Knot) (h : List Event) → Meets result (state_of world.new h) (value (tables_shape tables.now) k (node_shape node.now) (state_of world.old h)) }

@@ -1,7 +1,7 @@
 //! Which nodes are direct.
 
 ghost use Rattle.std.specs.Prelude.{◌≡◌, true, false, if◌then◌else◌};
-ghost use Rattle.c_eval_direct.specs.Direct.{is_direct, is_direct_place};
+ghost use Rattle.c_eval_direct.specs.Direct.{is_copied, is_direct, is_direct_place};
 ghost use Rattle.c_eval_once.specs.Forms.{is_address, is_deref, is_of_place, is_valued, is_variable, is_name};
 
 use c_syntax::tree::{CType, Expr, ExprProbe, Node, Note, UnaryOp};
@@ -29,9 +29,12 @@ pub fn is_direct(node: &Node, levels: u32) -> bool
                 && is_direct(a, levels - 1)
                 && is_direct(b, levels - 1)
         }
-        Expr::Assign(_, a, b) => levels > 0
-            && is_direct_place(a, levels - 1)
-            && is_direct(b, levels - 1),
+        Expr::Assign(_, a, b) => {
+            levels > 0
+                && !is_copied(&a.note)
+                && is_direct_place(a, levels - 1)
+                && is_direct(b, levels - 1)
+        }
         Expr::Step(_, a) => levels > 0 && is_direct_place(a, levels - 1),
         Expr::Probe(probe, a) => levels > 0 && is_direct_probe(probe, &node.note, a, levels - 1),
         _ => false,
@@ -105,6 +108,14 @@ fn is_valued(note: &Note) -> bool
         note,
         Note::Typed(CType::Int(_) | CType::Pointer(_) | CType::Array(_, _), _)
     )
+}
+
+// The note of a structure.
+#[inline(always)]
+fn is_copied(note: &Note) -> bool
+    ensures { result ≡ is_copied note.now }
+{
+    matches!(note, Note::Typed(CType::Struct(_), _))
 }
 
 // The probe stands round a place.

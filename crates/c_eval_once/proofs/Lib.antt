@@ -1,3 +1,4 @@
 pub mod Once
 pub mod Told
 pub mod Standing
+pub mod Copied

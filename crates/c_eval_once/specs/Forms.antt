@@ -118,6 +118,11 @@ abbrev pub fetched_as : Result (Option Value) Stop → State → Got (Option Val
 fetched_as (Ok v) s = Gives v s
 fetched_as (Err why) s = Stops why s
 
+-- nothing, where cells were copied, which has no value; or why the run stops
+abbrev pub copied_as : Option Stop → State → Got (Option Value)
+copied_as None s = Gives None s
+copied_as (Some why) s = Stops why s
+
 -- the value of a variable that has one cell, with its turn
 abbrev pub scalar_value : ℕ → State → Got Value
 scalar_value v s = turn s (λ s. then_do (present (instance_of v s) s) (λ j s. settled (read_of s.store (whole j 1)) s))

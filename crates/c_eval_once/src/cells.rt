@@ -111,7 +111,7 @@ pub fn stepped(world: &mut World, op: StepOp, node: &Node, at: Pointer) -> Answe
 
 // The place stands in no probe.
 #[inline(always)]
-fn is_bare(node: &Node) -> bool
+pub(crate) fn is_bare(node: &Node) -> bool
     ensures { result ≡ true → (u : Probing) → marks u (node_shape node.now) ≡ [] }
 {
     !matches!(&node.form, Expr::Paren(_) | Expr::Probe(_, _))

@@ -4,6 +4,7 @@
 pub mod at_once;
 pub mod builtins;
 pub mod cells;
+pub mod copying;
 pub mod leaf;
 mod number;
 pub mod reply;

@@ -10,9 +10,9 @@ use Rattle.c_walk.specs.declared.around.Taken.{Taken}
 use Rattle.c_walk.specs.declared.around.Taken.TheVariants.{Read, Changed}
 use Rattle.c_tables.specs.Rows.{text_of}
 use Rattle.c_walk.specs.Items.{Direct, cases}
-use Rattle.c_walk.specs.Places.{is_place, has_scalar, direct_form}
+use Rattle.c_walk.specs.Places.{is_place, direct_form}
 use Rattle.c_walk.specs.Tests.{is_logical_form, outcomes_of_form, choosing, case_values}
-use Rattle.c_walk.specs.Walked.{Walked, is_read, is_written, operand_taken, left_taken, with_block, with_block_if, pos_of, inside, inside_test, with_decision, with_test, with_def, with_use, with_sites, with_site}
+use Rattle.c_walk.specs.Walked.{Walked, is_used, is_written, operand_taken, left_taken, right_taken, with_block, with_block_if, pos_of, inside, inside_test, with_decision, with_test, with_def, with_use, with_sites, with_site}
 use Rattle.c_walk.specs.Walking.{walk_node, walk_form, walk_test, walk_arm, walk_nodes, walk_maybe, walk_loop_test, walk_maybe_test, walk_step}
 use Rattle.c_walk.specs.Stating.{with_variable, with_whole_def, walk_maybe_init, walk_declarator, walk_declarators, walk_decl, walk_decls, pos_of_stmt, splits, is_labelled, walk_choice, walk_stmt, walk_body, walk_part, walk_compound, walk_items}
 use Rattle.c_walk.specs.Units.{define_declarator, define_declarators, define_decl, define_decls, define_params, define_parameters, function_of, in_function, walk_function, walk_external}
@@ -36,11 +36,11 @@ use_count : (b : Bool) (c : Around) (p : Pos) (d : Option Direct) (w : Walked) �
 use_count true c p d w = refl
 use_count false c p d w = refl
 
-sites_count : (c : Around) (r : Taken) (p : Pos) (d : Option Direct) (scalar : Bool) (w : Walked) → (with_sites c r p d scalar w).variables ≡ w.variables
-sites_count c r p d scalar w = use_count (if is_read r then scalar else false) c p d (with_def (is_written r) c p d w) ∙ def_count (is_written r) c p d w
+sites_count : (c : Around) (r : Taken) (p : Pos) (d : Option Direct) (value : Bool) (w : Walked) → (with_sites c r p d value w).variables ≡ w.variables
+sites_count c r p d value w = use_count value c p d (with_def (is_written r) c p d w) ∙ def_count (is_written r) c p d w
 
 site_count : (c : Around) (r : Taken) (p : Pos) (n : NoteShape) (f : ExprShape) (w : Walked) → (with_site c r p n f w).variables ≡ w.variables
-site_count c r p n f w = pick_same (is_place f) (with_sites c r p (direct_form n f) (has_scalar n) w) w (sites_count c r p (direct_form n f) (has_scalar n) w)
+site_count c r p n f w = pick_same (is_place f) (with_sites c r p (direct_form n f) (is_used r n) w) w (sites_count c r p (direct_form n f) (is_used r n) w)
 
 test_count : (p : Pos) (f : ExprShape) (w : Walked) → (with_test p f w).variables ≡ w.variables
 test_count p f w = pick_other (is_logical_form f) (with_decision p (outcomes_of_form f) w) w refl
@@ -67,7 +67,7 @@ mutual
   form_count c r (suffix a (behind u)) w = node_count c Changed a w
   form_count c r (two and a b) w = test_node_count c b (with_block (pos_of b) (walk_test c a w)) ∙ test_node_count c a w
   form_count c r (two or a b) w = test_node_count c b (with_block (pos_of b) (walk_test c a w)) ∙ test_node_count c a w
-  form_count c r (two (assign u) a b) w = node_count c Read b (walk_node c (left_taken u) a w) ∙ node_count c (left_taken u) a w
+  form_count c r (two (assign u) a b) w = node_count c (right_taken u a) b (walk_node c (left_taken u) a w) ∙ node_count c (left_taken u) a w
   form_count c r (two (plain u) a b) w = node_count c Read b (walk_node c Read a w) ∙ node_count c Read a w
   form_count c r (two comma a b) w = node_count c Read b (walk_node c Read a w) ∙ node_count c Read a w
   form_count c r (choose a b d) w = arm_count c d (walk_arm c b (walk_test c a w)) ∙ (arm_count c b (walk_test c a w) ∙ test_node_count c a w)

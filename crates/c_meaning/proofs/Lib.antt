@@ -10,6 +10,7 @@ pub mod QuietCalls
 pub mod Twice
 pub mod Knots
 pub mod Steadily
+pub mod Copies
 pub mod SteadyNodes
 pub mod SteadyRuns
 pub mod Apart

@@ -15,7 +15,8 @@ use Rattle.c_store.specs.declared.value.Pointer.{Pointer}
 use Rattle.c_tables.specs.Tables.{FunctionShape, TablesShape}
 use Rattle.c_tables.specs.Rows.{row}
 use Rattle.c_walk.specs.declared.around.Taken.{Taken}
-use Rattle.c_walk.specs.declared.around.Taken.TheVariants.{Read, Written, Changed, Addressed}
+use Rattle.c_walk.specs.declared.around.Taken.TheVariants.{Read, Written, Changed, Copied, Addressed}
+use Rattle.c_walk.specs.Places.{holds_structure}
 use Rattle.c_meaning.specs.State.{State}
 use Rattle.c_meaning.specs.Results.{Got, Gives, then_do, settled, needed}
 use Rattle.c_meaning.specs.Operators.{is_true, operated, stepped_by_one, element_pointer, of_one, target, pointed}
@@ -26,6 +27,7 @@ use Rattle.c_meaning.specs.Constants.{type_at, kind_noted}
 use Rattle.c_meaning.specs.Knot.{Loop, Knot}
 use Rattle.c_meaning.specs.Builtins.{called, called_row, params_of}
 use Rattle.c_meaning.specs.Expressions.{Meaning, as_value, as_place, gives, operand, name_meaning, leaf_meaning, cast_value, tested, arm, last_test, assigned, step_value, meaning, form_meaning, arguments}
+use Rattle.c_meaning.proofs.Copies.{copied_hush}
 use Rattle.c_meaning.proofs.Hushed.{hush, hushed, hush_then, hush_turn, hush_if, hush_settled, hush_needed, hush_logs, block_hush, test_hush, loaded_hush, fetched_hush, variable_hush, field_hush, written_hush, stepped_hush, number_hush, literal_hush, noted_hush, built_in_hush}
 
 -- what stands before a node, where nothing is told
@@ -91,8 +93,9 @@ last_quiet : (a : NodeShape) (x y : Meaning) → Quiets x y → (m : ℕ) (i : F
 last_quiet a x y qs m i s =
     arm_quiet a m i s (λ j s. then_do (tested a x j s) (λ b. gives (Int (truth b)))) (λ j s. then_do (tested a y j s) (λ b. gives (Int (truth b)))) (λ j s. hush_then _ _ _ _ (tested_quiet a x y qs m j s) (λ b s. refl))
 
-assigned_quiet : (k : TypeOf) (xs : List Text) (x y : Meaning) → Quiets x y → (m m' : ℕ) (i j : First) (q : Pointer) (s : State) → assigned k xs x (quiet m) (quiet m') q (hush s) ≡ hushed (assigned k xs y i j q s)
-assigned_quiet k xs x y qs m m' i j q s = hush_then _ _ _ _ (hush_needed _ _ (qs.value_quiet m' j s)) (λ v s. written_hush k xs m i q v s)
+assigned_quiet : (copies : Bool) (k : TypeOf) (ds us : List Text) (x y : Meaning) → Quiets x y → (m m' : ℕ) (i j : First) (q : Pointer) (s : State) → assigned copies k ds us x (quiet m) (quiet m') q (hush s) ≡ hushed (assigned copies k ds us y i j q s)
+assigned_quiet true k ds us x y qs m m' i j q s = hush_then _ _ _ _ (qs.place_quiet Copied m' j s) (λ r s. copied_hush ds us m m' i j q r s)
+assigned_quiet false k ds us x y qs m m' i j q s = hush_then _ _ _ _ (hush_needed _ _ (qs.value_quiet m' j s)) (λ v s. written_hush k ds m i q v s)
 
 step_quiet : (f : Bool) (u : Step) (a : NodeShape) (x y : Meaning) → Quiets x y → (m : ℕ) (i : First) (s : State) → step_value f u a x (quiet m) (hush s) ≡ hushed (step_value f u a y i s)
 step_quiet f u a x y qs m i s =
@@ -158,7 +161,7 @@ module _ (t : TablesShape) (k l : Knot) (follows : Follows k l) where
         hush_then _ _ _ _ (tested_quiet a _ _ (node_quiets a) m i s) (λ x s.
         hush_if x (gives (Int (pos 1)) (hush s)) (gives (Int (pos 1)) s) _ _ refl (last_quiet b _ _ (node_quiets b) m (behind_test a i) s)))
     form_quiets p n (two (assign None) a b) = value_quiets _ _ (λ m i s.
-        hush_then _ _ _ _ ((node_quiets a).place_quiet Written m i s) (λ q s. assigned_quiet (type_at a) (marks def a) _ _ (node_quiets b) m m i (firsts.behind Written a i) q s))
+        hush_then _ _ _ _ ((node_quiets a).place_quiet Written m i s) (λ q s. assigned_quiet (holds_structure a) (type_at a) (marks def a) (marks used b) _ _ (node_quiets b) m m i (firsts.behind Written a i) q s))
     form_quiets p n (two (assign (Some u)) a b) = value_quiets _ _ (λ m i s.
         hush_then _ _ _ _ ((node_quiets a).place_quiet Changed m i s) (λ q s.
         hush_then _ _ _ _ (loaded_hush (marks used a) m i q s) (λ x s.

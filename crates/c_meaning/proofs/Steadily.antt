@@ -29,11 +29,11 @@ use Rattle.c_meaning.specs.Declarations.{new_instance, make, name_marks, filled,
 use Rattle.c_meaning.specs.Lasting.{Lasts, Lasted}
 
 -- the store has given as many numbers as before
-abbrev SameCount : ℕ → Result Cells Fault → Type 0
+abbrev pub SameCount : ℕ → Result Cells Fault → Type 0
 SameCount n (Ok c) = n ≡ c.count
 SameCount n (Err why) = Unit {0}
 
-if_count : (n : ℕ) (b : Bool) (c : Cells) (why : Fault) → n ≡ c.count → SameCount n (if b then Ok c else Err why)
+pub if_count : (n : ℕ) (b : Bool) (c : Cells) (why : Fault) → n ≡ c.count → SameCount n (if b then Ok c else Err why)
 if_count n true c why e = e
 if_count n false c why e = tt
 

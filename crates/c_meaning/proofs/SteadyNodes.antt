@@ -14,7 +14,8 @@ use Rattle.c_store.specs.declared.value.Pointer.{Pointer}
 use Rattle.c_tables.specs.Tables.{FunctionShape, TablesShape}
 use Rattle.c_tables.specs.Rows.{row}
 use Rattle.c_walk.specs.declared.around.Taken.{Taken}
-use Rattle.c_walk.specs.declared.around.Taken.TheVariants.{Read, Written, Changed, Addressed}
+use Rattle.c_walk.specs.declared.around.Taken.TheVariants.{Read, Written, Changed, Copied, Addressed}
+use Rattle.c_walk.specs.Places.{holds_structure}
 use Rattle.c_meaning.specs.State.{State}
 use Rattle.c_meaning.specs.Results.{Got, Gives, then_do, settled, needed}
 use Rattle.c_meaning.specs.Operators.{is_true, operated, stepped_by_one, element_pointer, of_one, target, pointed}
@@ -25,6 +26,7 @@ use Rattle.c_meaning.specs.Knot.{Knot}
 use Rattle.c_meaning.specs.Builtins.{called, called_row, params_of}
 use Rattle.c_meaning.specs.Expressions.{Meaning, as_value, as_place, gives, operand, name_meaning, leaf_meaning, cast_value, tested, arm, last_test, assigned, step_value, meaning, form_meaning, arguments}
 use Rattle.c_meaning.specs.Lasting.{Lasts, Lasted, Keeps, Steady}
+use Rattle.c_meaning.proofs.Copies.{copied_kept}
 use Rattle.c_meaning.proofs.Steadily.{at_rest, behind_step, then_kept, call_kept, if_kept, turn_kept, settled_kept, needed_kept, logs_kept, block_kept, test_kept, loaded_kept, fetched_kept, variable_kept, field_kept, written_kept, stepped_kept, number_kept, literal_kept, noted_kept, built_in_kept}
 
 module _ (R C Q S : State → State → Type 0) (lasts : Lasts R C Q S) where
@@ -73,8 +75,9 @@ module _ (R C Q S : State → State → Type 0) (lasts : Lasts R C Q S) where
   last_kept : (a : NodeShape) (m : Meaning) → Steady R Q m → (i : First) (s : State) → Lasted R Q s (last_test a m i s)
   last_kept a m st i s = arm_kept a i s (λ j s. then_do (tested a m j s) (λ x. gives (Int (truth x)))) (λ j s. then_kept R C Q S lasts s _ _ (tested_kept a m st j s) (λ x s. still _ s))
 
-  assigned_kept : (y : TypeOf) (xs : List Text) (m : Meaning) → Steady R Q m → (i j : First) (q : Pointer) (s : State) → Lasted R Q s (assigned y xs m i j q s)
-  assigned_kept y xs m st i j q s = then_kept R C Q S lasts s _ _ (needed_kept R C Q S lasts s _ (st.value_steady j s)) (λ v s. written_kept R C Q S lasts y xs i q v s)
+  assigned_kept : (copies : Bool) (y : TypeOf) (ds us : List Text) (m : Meaning) → Steady R Q m → (i j : First) (q : Pointer) (s : State) → Lasted R Q s (assigned copies y ds us m i j q s)
+  assigned_kept true y ds us m st i j q s = then_kept R C Q S lasts s _ _ (st.place_steady Copied j s) (λ r s. copied_kept R C Q S lasts ds us i j q r s)
+  assigned_kept false y xs us m st i j q s = then_kept R C Q S lasts s _ _ (needed_kept R C Q S lasts s _ (st.value_steady j s)) (λ v s. written_kept R C Q S lasts y xs i q v s)
 
   step_kept : (f : Bool) (u : Step) (a : NodeShape) (m : Meaning) → Steady R Q m → (i : First) (s : State) → Lasted R Q s (step_value f u a m i s)
   step_kept f u a m st i s =
@@ -137,7 +140,7 @@ module _ (R C Q S : State → State → Type 0) (lasts : Lasts R C Q S) (t : Tab
     form_steady p n (two or a b) = value_steadies R C Q S lasts _ (λ i s.
         then_kept R C Q S lasts s _ _ (tested_kept R C Q S lasts a _ (node_steady a) i s) (λ x s. if_kept R C Q S lasts s x _ _ (still R C Q S lasts _ s) (last_kept R C Q S lasts b _ (node_steady b) (behind_test a i) s)))
     form_steady p n (two (assign None) a b) = value_steadies R C Q S lasts _ (λ i s.
-        then_kept R C Q S lasts s _ _ ((node_steady a).place_steady Written i s) (λ q s. assigned_kept R C Q S lasts (type_at a) (marks def a) _ (node_steady b) i _ q s))
+        then_kept R C Q S lasts s _ _ ((node_steady a).place_steady Written i s) (λ q s. assigned_kept R C Q S lasts (holds_structure a) (type_at a) (marks def a) (marks used b) _ (node_steady b) i _ q s))
     form_steady p n (two (assign (Some u)) a b) = value_steadies R C Q S lasts _ (λ i s.
         then_kept R C Q S lasts s _ _ ((node_steady a).place_steady Changed i s) (λ q s.
         then_kept R C Q S lasts s _ _ (loaded_kept R C Q S lasts (marks used a) i q s) (λ x s.

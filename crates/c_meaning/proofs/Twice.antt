@@ -14,7 +14,8 @@ use Rattle.c_store.specs.declared.value.Pointer.{Pointer}
 use Rattle.c_tables.specs.Tables.{FunctionShape, TablesShape}
 use Rattle.c_tables.specs.Rows.{row}
 use Rattle.c_walk.specs.declared.around.Taken.{Taken}
-use Rattle.c_walk.specs.declared.around.Taken.TheVariants.{Read, Written, Changed, Addressed}
+use Rattle.c_walk.specs.declared.around.Taken.TheVariants.{Read, Written, Changed, Copied, Addressed}
+use Rattle.c_walk.specs.Places.{holds_structure}
 use Rattle.c_meaning.specs.State.{State}
 use Rattle.c_meaning.specs.Results.{Got, then_do, settled, needed}
 use Rattle.c_meaning.specs.Operators.{is_true, operated, stepped_by_one, element_pointer, of_one, target, pointed}
@@ -25,6 +26,7 @@ use Rattle.c_meaning.specs.Knot.{Loop, Knot}
 use Rattle.c_meaning.specs.Builtins.{called, called_row, params_of}
 use Rattle.c_meaning.specs.Expressions.{Meaning, as_value, as_place, gives, operand, name_meaning, leaf_meaning, cast_value, tested, arm, last_test, assigned, step_value, meaning, form_meaning, arguments}
 use Rattle.c_meaning.proofs.Alike.{Alike, alike_same, left_then, alike_then, if_alike, alike_turn, settled_left, needed_alike, logs_alike, logs_left, block_turns}
+use Rattle.c_meaning.proofs.Copies.{copied_left}
 use Rattle.c_meaning.proofs.Fewer.{loaded_left, fetched_left, variable_left, field_left, written_left, stepped_left, number_left, literal_left, noted_left, built_in_left}
 
 -- on states with fewer than n turns
@@ -96,8 +98,9 @@ last_alike n a m m' tw i s lt =
     arm_alike n (suc n) a i s (λ j s. then_do (tested a m j s) (λ x. gives (Int (truth x)))) (λ j s. then_do (tested a m' j s) (λ x. gives (Int (truth x)))) lt
     (λ j s lt. alike_then n _ _ _ _ (tested_alike n a m m' tw j s lt) (λ x s lt. alike_same n (gives (Int (truth x)) s) lt))
 
-assigned_alike : (n : ℕ) (y : TypeOf) (xs : List Text) (m m' : Meaning) → Twice n m m' → (i j : First) (q : Pointer) (s : State) → s.turns < n → Alike n (assigned y xs m i j q s) (assigned y xs m' i j q s)
-assigned_alike n y xs m m' tw i j q s lt = alike_then n _ _ _ _ (needed_alike n _ _ (tw.value_alike j s (omega arith))) (λ v s lt. alike_same n _ (written_left n y xs i q v s lt))
+assigned_alike : (n : ℕ) (copies : Bool) (y : TypeOf) (ds us : List Text) (m m' : Meaning) → Twice n m m' → (i j : First) (q : Pointer) (s : State) → s.turns < n → Alike n (assigned copies y ds us m i j q s) (assigned copies y ds us m' i j q s)
+assigned_alike n true y ds us m m' tw i j q s lt = alike_then n _ _ _ _ (tw.place_alike Copied j s (omega arith)) (λ r s lt. alike_same n _ (copied_left n ds us i j q r s lt))
+assigned_alike n false y xs us m m' tw i j q s lt = alike_then n _ _ _ _ (needed_alike n _ _ (tw.value_alike j s (omega arith))) (λ v s lt. alike_same n _ (written_left n y xs i q v s lt))
 
 step_alike : (n : ℕ) (f : Bool) (u : Step) (a : NodeShape) (m m' : Meaning) → Twice n m m' → (i : First) (s : State) → s.turns < n → Alike n (step_value f u a m i s) (step_value f u a m' i s)
 step_alike n f u a m m' tw i s lt =
@@ -161,7 +164,7 @@ module _ (t : TablesShape) (n : ℕ) (k l : Knot) (same : Same n k l) where
         alike_then n _ _ _ _ (tested_alike n a _ _ (node_twice a) i s (omega arith)) (λ x s lt.
         if_alike n x (gives (Int (pos 1)) s) (gives (Int (pos 1)) s) _ _ (alike_same n _ lt) (last_alike n b _ _ (node_twice b) (behind_test a i) s (omega arith))))
     form_twice p m (two (assign None) a b) = value_twice n _ _ (λ i s lt.
-        alike_then n _ _ _ _ ((node_twice a).place_alike Written i s (omega arith)) (λ q s lt. assigned_alike n (type_at a) (marks def a) _ _ (node_twice b) i _ q s lt))
+        alike_then n _ _ _ _ ((node_twice a).place_alike Written i s (omega arith)) (λ q s lt. assigned_alike n (holds_structure a) (type_at a) (marks def a) (marks used b) _ _ (node_twice b) i _ q s lt))
     form_twice p m (two (assign (Some u)) a b) = value_twice n _ _ (λ i s lt.
         alike_then n _ _ _ _ ((node_twice a).place_alike Changed i s (omega arith)) (λ q s lt.
         alike_then n _ _ _ _ (alike_same n _ (loaded_left n (marks used a) i q s lt)) (λ x s lt.

@@ -10,9 +10,9 @@ use Rattle.c_walk.specs.declared.around.Taken.{Taken}
 use Rattle.c_walk.specs.declared.around.Taken.TheVariants.{Read, Changed}
 use Rattle.c_tables.specs.Rows.{first_place, name_pos, text_of}
 use Rattle.c_walk.specs.Items.{Direct, Item, Outcomes, block, decision, def, used, cases}
-use Rattle.c_walk.specs.Places.{is_place, has_scalar, direct_form}
+use Rattle.c_walk.specs.Places.{is_place, direct_form}
 use Rattle.c_walk.specs.Tests.{is_logical_form, outcomes_of_form, choosing, case_values}
-use Rattle.c_walk.specs.Walked.{Walked, with_item, is_read, is_written, operand_taken, left_taken, with_block, with_block_if, pos_of, inside, inside_test, with_decision, with_test, with_def, with_use, with_sites, with_site}
+use Rattle.c_walk.specs.Walked.{Walked, with_item, is_used, is_written, operand_taken, left_taken, right_taken, with_block, with_block_if, pos_of, inside, inside_test, with_decision, with_test, with_def, with_use, with_sites, with_site}
 use Rattle.c_walk.specs.Walking.{walk_node, walk_form, walk_test, walk_arm, walk_nodes, walk_maybe, walk_loop_test, walk_maybe_test, walk_step}
 use Rattle.c_walk.specs.Stating.{whole, with_variable, with_whole_def, walk_maybe_init, walk_declarator, walk_declarators, walk_decl, walk_decls, pos_of_stmt, splits, is_labelled, walk_choice, walk_stmt, walk_body, walk_part, walk_compound, walk_items}
 use Rattle.c_walk.specs.Units.{define_declarator, define_declarators, define_decl, define_decls, define_params, define_parameters, function_of, in_function, walk_function, walk_external, walk_externals}
@@ -72,14 +72,13 @@ use_on : (b : Bool) (c : Around) (p : Pos) (d : Option Direct) (w : Walked) → 
 use_on true c p d w = item_on (used p c.function d c.owner) w
 use_on false c p d w = on_same w
 
-sites_on : (c : Around) (r : Taken) (p : Pos) (d : Option Direct) (scalar : Bool) (w : Walked) → IsBefore w (with_sites c r p d scalar w)
-sites_on c r p d scalar w =
+sites_on : (c : Around) (r : Taken) (p : Pos) (d : Option Direct) (value : Bool) (w : Walked) → IsBefore w (with_sites c r p d value w)
+sites_on c r p d value w =
     let v = with_def (is_written r) c p d w in
-    let b = if is_read r then scalar else false in
-    on_further w v (with_use b c p d v) (def_on (is_written r) c p d w) (use_on b c p d v)
+    on_further w v (with_use value c p d v) (def_on (is_written r) c p d w) (use_on value c p d v)
 
 pub site_on : (c : Around) (r : Taken) (p : Pos) (n : NoteShape) (f : ExprShape) (w : Walked) → IsBefore w (with_site c r p n f w)
-site_on c r p n f w = if_on w (is_place f) (with_sites c r p (direct_form n f) (has_scalar n) w) w (sites_on c r p (direct_form n f) (has_scalar n) w) (on_same w)
+site_on c r p n f w = if_on w (is_place f) (with_sites c r p (direct_form n f) (is_used r n) w) w (sites_on c r p (direct_form n f) (is_used r n) w) (on_same w)
 
 pub test_on : (p : Pos) (f : ExprShape) (w : Walked) → IsBefore w (with_test p f w)
 test_on p f w = if_on w (is_logical_form f) w (with_decision p (outcomes_of_form f) w) (on_same w) (decision_on p (outcomes_of_form f) w)
@@ -117,7 +116,7 @@ mutual
       let u = walk_test c a w in
       let v = with_block (pos_of b) u in
       on_further w u (walk_test c b v) (test_node_on c a w) (on_further u v (walk_test c b v) (block_on (pos_of b) u) (test_node_on c b v))
-  form_on c r (two (assign u) a b) w = let v = walk_node c (left_taken u) a w in on_further w v (walk_node c Read b v) (node_on c (left_taken u) a w) (node_on c Read b v)
+  form_on c r (two (assign u) a b) w = let v = walk_node c (left_taken u) a w in on_further w v (walk_node c (right_taken u a) b v) (node_on c (left_taken u) a w) (node_on c (right_taken u a) b v)
   form_on c r (two (plain u) a b) w = let v = walk_node c Read a w in on_further w v (walk_node c Read b v) (node_on c Read a w) (node_on c Read b v)
   form_on c r (two comma a b) w = let v = walk_node c Read a w in on_further w v (walk_node c Read b v) (node_on c Read a w) (node_on c Read b v)
   form_on c r (choose a b d) w =

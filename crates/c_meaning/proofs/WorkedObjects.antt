@@ -81,6 +81,31 @@ fields : runs (s_struct ∷ main_with (an_s v ∷ a_pointer_to_s q ∷ []) (does
 unfolding pattern value_of fitted shift_count unary_result binary_result calls
 fields = refl
 
+-- struct s{int f;int g;};int main(void){struct s a,b;a.f=1;a.g=2;b=a;b.g=5;return b.f+b.g;}: one use and one definition, told of each cell
+copied_whole : runs (s_struct ∷ main_with (an_s a ∷ an_s b ∷ []) (does (set (dotted (var a) f) (digit 1)) (does (set (dotted (var a) g) (digit 2))
+    (does (set (var b) (var a)) (does (set (dotted (var b) g) (digit 5)) (give (bin op.Add (dotted (var b) f) (dotted (var b) g))))))) ∷ []) [] 100
+    ≡ record {
+      output = [];
+      turns = 32;
+      end = end.Returned (pos 6);
+      events =
+          Block 1 ∷ Def 1 (cell 1 0) ∷ Def 2 (cell 1 1) ∷ Use 1 (cell 1 0) 1 ∷ Use 1 (cell 1 1) 1 ∷ Def 3 (cell 2 0) ∷ Def 3 (cell 2 1) ∷ Def 4 (cell 2 1)
+          ∷ Use 2 (cell 2 0) 1 ∷ Use 3 (cell 2 1) 1 ∷ [];
+    }
+unfolding pattern value_of fitted shift_count unary_result binary_result calls
+copied_whole = refl
+
+-- struct s{int f;int g;};int main(void){struct s a,b;a.f=1;b=a;return b.g;}: a cell without value is copied as one without value
+copied_without_value : runs (s_struct ∷ main_with (an_s a ∷ an_s b ∷ []) (does (set (dotted (var a) f) (digit 1)) (does (set (var b) (var a)) (give (dotted (var b) g)))) ∷ []) [] 100
+    ≡ record {
+      output = [];
+      turns = 19;
+      end = end.Fault Uninitialised main_text;
+      events = Block 1 ∷ Def 1 (cell 1 0) ∷ Use 1 (cell 1 0) 1 ∷ Use 1 (cell 1 1) 1 ∷ Def 2 (cell 2 0) ∷ Def 2 (cell 2 1) ∷ [];
+    }
+unfolding pattern value_of fitted shift_count unary_result binary_result calls
+copied_without_value = refl
+
 -- how a run ends, and behind how many turns
 pub record Ending : Type 0 where
   pub turns : ℕ

@@ -15,14 +15,15 @@ use Rattle.c_store.specs.declared.value.Value.TheVariants.{Int, At}
 use Rattle.c_store.specs.declared.value.Pointer.{Pointer}
 use Rattle.c_tables.specs.Tables.{TablesShape}
 use Rattle.c_walk.specs.declared.around.Taken.{Taken}
-use Rattle.c_walk.specs.declared.around.Taken.TheVariants.{Read, Written, Changed, Addressed}
+use Rattle.c_walk.specs.declared.around.Taken.TheVariants.{Read, Written, Changed, Copied, Addressed}
+use Rattle.c_walk.specs.Places.{holds_structure}
 use Rattle.c_walk.specs.Tests.{choosing}
 use Rattle.c_meaning.specs.State.{tells, State, logged, activation}
 use Rattle.c_meaning.specs.Results.{Got, Gives, then_do, turn, untyped, settled, needed}
 use Rattle.c_meaning.specs.Operators.{converted, is_true, operated, stepped_by_one, element_pointer, of_one, target, pointed}
 use Rattle.c_meaning.specs.Firsts as firsts
 use Rattle.c_meaning.specs.Firsts.{First, within, at_test, behind_test, at_arm, behind_arm, noted_block, noted_test, outcome}
-use Rattle.c_meaning.specs.Places.{room, first_cell, variable_place, field_place, logs, marks, loaded, stored, fetched}
+use Rattle.c_meaning.specs.Places.{room, first_cell, variable_place, field_place, logs, marks, loaded, stored, copied, fetched}
 use Rattle.c_meaning.specs.Constants.{select_constants, chosen_among, kind_noted, type_at}
 use Rattle.c_meaning.specs.Knot.{Knot}
 use Rattle.c_meaning.specs.Builtins.{called, params_of, as_parameter}
@@ -95,9 +96,10 @@ last_test a m i s = arm a i s (λ j s. then_do (tested a m j s) (λ x. gives (In
 abbrev pub written : TypeOf → List Text → First → Pointer → Value → State → Got (Option Value)
 written k xs i q v s = then_do (stored tells xs i q (converted k v) s) gives
 
--- the right side of `=`, and the write
-abbrev pub assigned : TypeOf → List Text → Meaning → First → First → Pointer → State → Got (Option Value)
-assigned k xs m i j q s = then_do (needed (m.value j s)) (λ v. written k xs i q v)
+-- the right side of `=`, and the write; or a structure's place, and its copy, which has no value
+abbrev pub assigned : Bool → TypeOf → List Text → List Text → Meaning → First → First → Pointer → State → Got (Option Value)
+assigned true k ds us m i j q s = then_do (m.place Copied j s) (copied ds us i j q)
+assigned false k ds us m i j q s = then_do (needed (m.value j s)) (λ v. written k ds i q v)
 
 -- the value before a step, or the one behind it
 abbrev pub stepped_from : Bool → Value → Option Value → State → Got (Option Value)
@@ -159,7 +161,7 @@ abbrev mutual
   form_meaning t k p n (two or a b) = as_value (λ i s.
       then_do (tested a (meaning t k a) i s) (λ x s. if x then gives (Int (pos 1)) s else last_test b (meaning t k b) (behind_test a i) s))
   form_meaning t k p n (two (assign None) a b) = as_value (λ i s.
-      then_do ((meaning t k a).place Written i s) (assigned (type_at a) (marks def a) (meaning t k b) i (firsts.behind Written a i)))
+      then_do ((meaning t k a).place Written i s) (assigned (holds_structure a) (type_at a) (marks def a) (marks used b) (meaning t k b) i (firsts.behind Written a i)))
   form_meaning t k p n (two (assign (Some u)) a b) = as_value (λ i s.
       then_do ((meaning t k a).place Changed i s) (λ q s.
       then_do (loaded (marks used a) i q s) (λ x s.

@@ -1,5 +1,5 @@
 -- What is done with places (C89, 3.2.2.1): variables, parts, reading and writing; and the probes round them.
-use Rattle.std.specs.Prelude.{ℕ, suc, ◌+◌, ◌*◌, nat_le, ◌&&◌, Bool, ◌++◌, List, [], ◌∷◌, Option, Some, None, if◌then◌else◌}
+use Rattle.std.specs.Prelude.{ℕ, zero, suc, ◌+◌, ◌*◌, nat_le, nat_lt, nat_eq, ◌&&◌, Bool, ◌++◌, List, [], ◌∷◌, Option, Some, None, if◌then◌else◌}
 use Rattle.c_events.specs.declared.events.Event.{Event}
 use Rattle.c_events.specs.declared.events.Event.TheVariants.{Def, Use}
 use Rattle.c_syntax.specs.declared.text.Text.{Text}
@@ -8,10 +8,11 @@ use Rattle.c_constants.specs.Probes.{probe_number_of}
 use Rattle.c_store.specs.declared.value.Value.{Value}
 use Rattle.c_store.specs.declared.value.Value.TheVariants.{At}
 use Rattle.c_store.specs.declared.value.Pointer.{Pointer}
-use Rattle.c_store.specs.Cells.{read_of, write_of, selected}
+use Rattle.c_store.specs.Cells.{cell_of, read_of, write_of, selected}
+use Rattle.c_store.specs.Copies.{reach_of, copy_of}
 use Rattle.c_tables.specs.Tables.{TablesShape}
-use Rattle.c_meaning.specs.State.{Act, tells, State, logged, activation, instance_of}
-use Rattle.c_meaning.specs.Results.{Got, Gives, then_do, untyped, settled, present}
+use Rattle.c_meaning.specs.State.{Act, tells, repeats, State, logged, activation, instance_of}
+use Rattle.c_meaning.specs.Results.{Got, Gives, then_do, turns, untyped, settled, present}
 use Rattle.c_meaning.specs.Layout.{Part, cells, part_in}
 use Rattle.c_meaning.specs.Firsts.{First, cell_at, noted_use, noted_def}
 
@@ -100,6 +101,37 @@ loaded xs i q s = then_do (settled (read_of s.store q) s) (λ v s. logs (log_use
 abbrev pub stored : (Event → Act) → List Text → First → Pointer → Value → State → Got Value
 stored way xs i q v s =
     then_do (settled (write_of s.store q v) s) (λ c s. logs (log_def q) xs (noted_def way i q (record s { store = c })) (λ s. Gives v s))
+
+-- ---- copying
+
+-- to the first cell of the element at that place
+abbrev pub first_of : Pointer → Pointer
+first_of q = record q { base = cell_of q; length = q.size; size = 1; index = 0 }
+
+-- of so many cells it is told one by one that each was used, or defined
+abbrev pub cells_used : {A : Type 0} → (Event → Act) → List Text → First → Pointer → ℕ → State → (State → Got A) → Got A
+cells_used way xs i q zero s go = go s
+cells_used way xs i q (suc n) s go = logs (log_use q) xs (noted_use way i q s) (λ s. cells_used repeats xs i (next_cell q) n s go)
+
+abbrev pub cells_defined : {A : Type 0} → (Event → Act) → List Text → First → Pointer → ℕ → State → (State → Got A) → Got A
+cells_defined way xs i q zero s go = go s
+cells_defined way xs i q (suc n) s go = logs (log_def q) xs (noted_def way i q s) (λ s. cells_defined repeats xs i (next_cell q) n s go)
+
+-- the cells of one element are copied into those of the other, of as many: both lists of probes stand round their places
+abbrev pub copied_cells : List Text → List Text → First → First → Pointer → Pointer → State → Got (Option Value)
+copied_cells ds us i j q r s =
+    turns r.size s (λ s.
+    then_do (settled (reach_of s.store r) s) (λ done s.
+    cells_used tells us j (first_of r) r.size s (λ s.
+    then_do (settled (copy_of s.store r q) s) (λ c s.
+    cells_defined tells ds i (first_of q) q.size (record s { store = c }) (λ s. Gives None s)))))
+
+-- two elements of as many cells, of which there are some
+abbrev pub alike_in_size : Pointer → Pointer → Bool
+alike_in_size q r = nat_eq q.size r.size && nat_lt 0 r.size
+
+abbrev pub copied : List Text → List Text → First → First → Pointer → Pointer → State → Got (Option Value)
+copied ds us i j q r s = if alike_in_size q r then copied_cells ds us i j q r s else untyped s
 
 -- what a place gives as a value: a scalar's is read, an array's is a pointer to its first element; a structure gives none, and neither
 -- does what a pointer to void points to

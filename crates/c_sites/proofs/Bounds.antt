@@ -7,7 +7,7 @@ use Rattle.c_walk.specs.Items.{Item, block, decision, def, used}
 use Rattle.c_sites.specs.declared.lists.Lists.{Lists}
 use Rattle.c_sites.specs.declared.lists.DefSite as code_def
 use Rattle.c_sites.specs.declared.lists.UseSite as code_use
-use Rattle.c_sites.specs.Names.{LeafName, site_names, all_names}
+use Rattle.c_sites.specs.Names.{LeafName, own_names, site_names, all_names}
 use Rattle.c_sites.specs.Numbers.{same_name, with_name, with_names, names_of, number_of, first_number}
 use Rattle.c_sites.specs.Kinds.{DefSite, defs, UseSite, uses}
 use Rattle.c_sites.specs.Lists.{lists_of}
@@ -70,7 +70,7 @@ module _ (ns : List LeafName) (rows : List StructShape) where
   defs_below (block p ∷ is) h = defs_below is h
   defs_below (decision p o ∷ is) h = defs_below is h
   defs_below (def p f d ∷ is) h = (numbers_below ns (site_names rows d) (all_front (IsAmong ns) (site_names rows d) (all_names rows is) h), defs_below is (all_back (IsAmong ns) (site_names rows d) (all_names rows is) h))
-  defs_below (used p f d o ∷ is) h = defs_below is (all_back (IsAmong ns) (site_names rows d) (all_names rows is) h)
+  defs_below (used p f d o ∷ is) h = defs_below is (all_back (IsAmong ns) (own_names d ++ site_names rows d) (all_names rows is) h)
 
   uses_below : (is : List Item) → AllByRecursion (IsAmong ns) (all_names rows is) → AllByRecursion (λ (u : UseSite). u.name ≤ length ns) (uses ns rows is)
   uses_below [] h = tt
@@ -78,8 +78,9 @@ module _ (ns : List LeafName) (rows : List StructShape) where
   uses_below (decision p o ∷ is) h = uses_below is h
   uses_below (def p f d ∷ is) h = uses_below is (all_back (IsAmong ns) (site_names rows d) (all_names rows is) h)
   uses_below (used p f d o ∷ is) h =
-      let names = site_names rows d in
-      (first_below (length ns) (map (number_of ns) names) (numbers_below ns names (all_front (IsAmong ns) names (all_names rows is) h)), uses_below is (all_back (IsAmong ns) names (all_names rows is) h))
+      let names = own_names d ++ site_names rows d in
+      let own = all_front (IsAmong ns) (own_names d) (site_names rows d) (all_front (IsAmong ns) names (all_names rows is) h) in
+      (first_below (length ns) (map (number_of ns) (own_names d)) (numbers_below ns (own_names d) own), uses_below is (all_back (IsAmong ns) names (all_names rows is) h))
 
 module _ (rows : List StructShape) (is : List Item) (ns : List LeafName) (l : Lists) (same : ns ≡ names_of rows is) (shape : lists_shape l ≡ lists_of ns rows is) where
   among : AllByRecursion (IsAmong ns) (all_names rows is)

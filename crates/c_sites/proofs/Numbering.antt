@@ -1,13 +1,18 @@
 -- Numbers of names, whichever names come behind them.
-use Rattle.std.proofs.Common.{◌≡◌, ℕ, ◌+◌, ◌++◌, List, [], ◌∷◌, map, Bool, true, false, not, ◌||◌, cond, if◌then◌else◌, refl, sym, ap, ◌∙◌, append_assoc, append-nil}
+use Rattle.std.proofs.Common.{◌≡◌, ℕ, ◌+◌, ◌++◌, List, [], ◌∷◌, map, Bool, true, false, not, ◌||◌, cond, if◌then◌else◌, Option, None, refl, sym, ap, ap₂, ◌∙◌, append_assoc, append-nil}
 use Rattle.std.proofs.lemmas.List.{map-append}
 use Rattle.std.proofs.lemmas.Slice.Eq.{bytes_eq-Decides}
 use Rattle.std.specs.Prelude.{nat_eq, bytes_eq, ◌&&◌}
 use Rattle.std.specs.List.{list_any, position_or_len}
 use Rattle.std.specs.Cmp.{nat_eq_equiv}
 use Rattle.indexmap.specs.IndexSet.{insert_key}
-use Rattle.c_sites.specs.Names.{LeafName}
-use Rattle.c_sites.specs.Numbers.{same_name, with_name, with_names, number_of}
+use Rattle.c_base.specs.declared.place.Pos.{Pos}
+use Rattle.c_tables.specs.Tables.{StructShape}
+use Rattle.c_walk.specs.Items.{Direct}
+use Rattle.c_sites.specs.Names.{LeafName, own_names, site_names}
+use Rattle.c_sites.specs.Numbers.{same_name, with_name, with_names, number_of, first_number}
+use Rattle.c_sites.specs.Kinds.{UseSite, variable_of}
+use Rattle.c_sites.specs.Added.{IsUse}
 use Rattle.c_sites.specs.Spelled.{IsNumber, AreNamed}
 
 -- ---- the names grow
@@ -102,6 +107,21 @@ named_none ns a = record { names = refl; numbers = λ more. sym (append-nil a) }
 
 pub named_one : (n m : List LeafName) (x : LeafName) (k : ℕ) (a b : List ℕ) → m ≡ with_name n x → IsNumber m x k → b ≡ a ++ k ∷ [] → AreNamed n m (x ∷ []) a b
 named_one n m x k a b e h t = record { names = e; numbers = λ more. t ∙ ap (λ j. a ++ j ∷ []) (h more) }
+
+pub named_before : (n m o : List LeafName) (xs ys : List LeafName) (a b c d : List ℕ) → AreNamed n m xs a b → AreNamed m o ys c d → (more : List LeafName) → b ≡ a ++ map (number_of (o ++ more)) xs
+named_before n m o xs ys a b c d first second more =
+    let behind = beyond m ys in
+    let whole : m ++ (behind ++ more) ≡ o ++ more = sym (append_assoc m behind more) ∙ ap (λ l. l ++ more) (sym (second.names ∙ grown m ys)) in
+    first.numbers (behind ++ more) ∙ ap (λ l. a ++ map (number_of l) xs) whole
+
+-- a use, whose own name is named before its leaf names
+pub use_named : (old mid new : List LeafName) (rows : List StructShape) (p : Pos) (f : ℕ) (d : Option Direct) (a b : List ℕ) (s : UseSite) → AreNamed old mid (own_names d) [] a → AreNamed mid new (site_names rows d) [] b
+    → s ≡ record { pos = p; function = f; variable = variable_of d; name = first_number a; names = b; owner = None } → IsUse old new rows p f d None s
+use_named old mid new rows p f d a b s own leaves is = record {
+  names = leaves.names ∙ ap (λ m. with_names m (site_names rows d)) own.names ∙ sym (with_both old (own_names d) (site_names rows d));
+  site = λ more. is ∙ ap₂ (λ (n : List ℕ) (m : List ℕ). record { pos = p; function = f; variable = variable_of d; name = first_number n; names = m; owner = None })
+      (named_before old mid new (own_names d) (site_names rows d) [] a [] b own leaves more) (leaves.numbers more);
+}
 
 pub named_both : (n m o : List LeafName) (xs ys : List LeafName) (a b c : List ℕ) → AreNamed n m xs a b → AreNamed m o ys b c → AreNamed n o (xs ++ ys) a c
 named_both n m o xs ys a b c first second =

@@ -2,19 +2,18 @@
 use Rattle.std.proofs.Common.{◌≡◌, ℕ, zero, suc, ◌+◌, ◌≤◌, List, [], ◌∷◌, map, length, Option, Some, None, true≢false, refl, sym, ap, ◌∙◌, subst, arith}
 use Rattle.std.proofs.lemmas.List.{length-map}
 use Rattle.std.specs.Prelude.{All, IsSome}
-use Rattle.std.specs.List.{AllByRecursion, position_or_len}
+use Rattle.std.specs.List.{AllByRecursion}
 use Rattle.c_tables.specs.Tables.{StructShape}
 use Rattle.c_walk.specs.Items.{Direct, Item, block, decision, def, used}
-use Rattle.c_walk.specs.Sound.{decision_count, IsOwner, HasScalar, IsSound, AreSound}
+use Rattle.c_walk.specs.Sound.{decision_count, IsOwner, IsSound, AreSound}
 use Rattle.c_sites.specs.declared.lists.Lists.{Lists}
-use Rattle.c_sites.specs.Names.{LeafName, leaf_name, site_leaves}
-use Rattle.c_sites.specs.Numbers.{same_name, number_of, site_numbers, first_number}
+use Rattle.c_sites.specs.Names.{LeafName}
+use Rattle.c_sites.specs.Numbers.{own_numbers, first_number}
 use Rattle.c_sites.specs.Kinds.{decisions, UseSite, variable_of, uses}
 use Rattle.c_sites.specs.Lists.{lists_of}
 use Rattle.c_sites.specs.ListsView.{decision_shape, use_shape, lists_shape}
 use Rattle.c_sites.specs.Few.{IsShort, HasShortOwner}
 use Rattle.c_sites.specs.Refused.{IsRead}
-use Rattle.c_sites.proofs.Elements.{scalar_leaves}
 use Rattle.c_sites.proofs.Bounds.{all_unmap}
 
 -- the same of a use by itself
@@ -28,21 +27,17 @@ counted (decision p o ∷ is) = ap suc (counted is)
 counted (def p f d ∷ is) = counted is
 counted (used p f d o ∷ is) = counted is
 
--- a direct use of an integer or a pointer has its own leaf name
-one_name : (ns : List LeafName) (rows : List StructShape) (d : Option Direct) → HasScalar d → IsSome (variable_of d) → 1 ≤ first_number (site_numbers ns rows d)
-one_name ns rows None h s = absurd (true≢false (sym s))
-one_name ns rows (Some d) h s =
-    let x = leaf_name d.variable d.name in
-    let one : site_leaves rows (Some d) ≡ d.name ∷ [] = scalar_leaves (length rows) rows d.name d.kind h in
-    let number : first_number (site_numbers ns rows (Some d)) ≡ position_or_len (same_name x) ns + 1 = ap (λ l. first_number (map (number_of ns) (map (leaf_name d.variable) l))) one in
-    omega arith
+-- a direct use has its own name
+one_name : (ns : List LeafName) (d : Option Direct) → IsSome (variable_of d) → 1 ≤ first_number (own_numbers ns d)
+one_name ns None s = absurd (true≢false (sym s))
+one_name ns (Some d) s = omega arith
 
 uses_read : (ns : List LeafName) (rows : List StructShape) (n : ℕ) (is : List Item) → AllByRecursion (IsSound n) is → AllByRecursion (IsUsed n) (uses ns rows is)
 uses_read ns rows n [] h = tt
 uses_read ns rows n (block p ∷ is) h = uses_read ns rows n is h.1
 uses_read ns rows n (decision p o ∷ is) h = uses_read ns rows n is h.1
 uses_read ns rows n (def p f d ∷ is) h = uses_read ns rows n is h.1
-uses_read ns rows n (used p f d o ∷ is) h = ((h.0.0, one_name ns rows d h.0.1), uses_read ns rows n is h.1)
+uses_read ns rows n (used p f d o ∷ is) h = ((h.0.0, one_name ns d), uses_read ns rows n is h.1)
 
 each_of : {X : Type 0} (P : X → Type 0) (xs : List X) → AllByRecursion P xs → All P xs
 each_of P [] h k d lt = absurd (omega (arith, lt))

@@ -5,7 +5,7 @@ use Rattle.c_tables.specs.Tables.{StructShape}
 use Rattle.c_base.specs.declared.labels.OutcomeLabel.{OutcomeLabel}
 use Rattle.c_walk.specs.Items.{Direct, labels, Item, block, decision, def, used}
 use Rattle.c_sites.specs.Names.{LeafName}
-use Rattle.c_sites.specs.Numbers.{site_numbers, first_number}
+use Rattle.c_sites.specs.Numbers.{site_numbers, own_numbers, first_number}
 
 abbrev pub blocks : List Item → List Pos
 blocks [] = []
@@ -39,7 +39,7 @@ defs ns rows [] = []
 defs ns rows (def p f d ∷ rest) = def_site ns rows p f d ∷ defs ns rows rest
 defs ns rows (i ∷ rest) = defs ns rows rest
 
--- a use has its leaf names, of which a scalar has one, and the number of the decision whose expression holds it, the innermost one, if there is one
+-- a use has the number of its own name, its leaf names, of which a scalar has that one alone, and the number of the decision whose expression holds it, the innermost one, if there is one
 pub record UseSite : Type 0 where
   pub pos : Pos
   pub function : ℕ
@@ -49,7 +49,7 @@ pub record UseSite : Type 0 where
   pub owner : Option ℕ
 
 abbrev pub use_site : List LeafName → List StructShape → Pos → ℕ → Option Direct → Option ℕ → UseSite
-use_site ns rows p f d o = record { pos = p; function = f; variable = variable_of d; name = first_number (site_numbers ns rows d); names = site_numbers ns rows d; owner = o }
+use_site ns rows p f d o = record { pos = p; function = f; variable = variable_of d; name = first_number (own_numbers ns d); names = site_numbers ns rows d; owner = o }
 
 abbrev pub uses : List LeafName → List StructShape → List Item → List UseSite
 uses ns rows [] = []

@@ -45,11 +45,17 @@ abbrev pub site_names : List StructShape → Option Direct → List LeafName
 site_names rows None = []
 site_names rows (Some d) = map (leaf_name d.variable) (site_leaves rows (Some d))
 
+-- of a direct place itself, by its own name
+abbrev pub own_names : Option Direct → List LeafName
+own_names None = []
+own_names (Some d) = leaf_name d.variable d.name ∷ []
+
+-- a use has its own name too, which is that of its one leaf where it is an integer or a pointer
 abbrev pub item_names : List StructShape → Item → List LeafName
 item_names rows (block p) = []
 item_names rows (decision p o) = []
 item_names rows (def p f d) = site_names rows d
-item_names rows (used p f d o) = site_names rows d
+item_names rows (used p f d o) = own_names d ++ site_names rows d
 
 -- those of the sites of a list, one site's behind the other's
 abbrev pub all_names : List StructShape → List Item → List LeafName

@@ -3,7 +3,7 @@ use Rattle.std.specs.Prelude.{ℕ, ◌+◌, ◌++◌, ◌&&◌, List, [], ◌∷
 use Rattle.std.specs.List.{list_any, position_or_len}
 use Rattle.c_tables.specs.Tables.{StructShape}
 use Rattle.c_walk.specs.Items.{Direct, Item}
-use Rattle.c_sites.specs.Names.{LeafName, site_names, all_names}
+use Rattle.c_sites.specs.Names.{LeafName, own_names, site_names, all_names}
 
 -- the same variable and the same text
 abbrev pub same_name : LeafName → LeafName → Bool
@@ -28,7 +28,11 @@ number_of ns x = position_or_len (same_name x) ns + 1
 abbrev pub site_numbers : List LeafName → List StructShape → Option Direct → List ℕ
 site_numbers ns rows d = map (number_of ns) (site_names rows d)
 
--- an integer or a pointer has one leaf name; 0 stands for none
+-- of the place by its own name
+abbrev pub own_numbers : List LeafName → Option Direct → List ℕ
+own_numbers ns d = map (number_of ns) (own_names d)
+
+-- there is one name at most; 0 stands for none
 abbrev pub first_number : List ℕ → ℕ
 first_number [] = 0
 first_number (n ∷ rest) = n

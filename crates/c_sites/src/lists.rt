@@ -12,7 +12,7 @@ ghost use Rattle.c_sites.specs.ListsView.{lists_shape, def_shape, use_shape};
 ghost use Rattle.c_sites.specs.Numbers.{names_of, first_number};
 
 use crate::names::Names;
-use crate::naming::site_numbers;
+use crate::naming::{own_numbers, site_numbers};
 use c_base::labels::Labels;
 use c_base::numbers::NumberList;
 use c_base::place::{NoMemory, Pos};
@@ -38,8 +38,8 @@ pub struct DefSite {
     pub names: NumberList,
 }
 
-/// A use: its place, its function, its variable, if it is direct, and the numbers of its leaf names, the first of which is its
-/// name; an indirect one has none, and its name is 0. And the number of the decision whose expression holds it, the innermost
+/// A use: its place, its function, its variable, if it is direct, the number of its own name, and those of its leaf names, of
+/// which an integer or a pointer has its own one alone; an indirect one has none, and its name is 0. And the number of the decision whose expression holds it, the innermost
 /// one, if there is one.
 #[derive(Drop)]
 pub struct UseSite {
@@ -153,8 +153,9 @@ fn use_site(
     ensures { IfOk result (λ u. IsUse names.old names.new (tables_shape tables.now).structures pos function (place_shape place) None (use_shape u)) }
 {
     let variable = variable_of(&place);
+    let own = own_numbers(alloc, names, &place)?;
     let numbers = site_numbers(alloc, names, tables, place)?;
-    let name = first_number(&numbers);
+    let name = first_number(&own);
     Ok(UseSite {
         pos,
         function,

@@ -6,7 +6,7 @@ ghost use Rattle.c_tables.specs.Rows.{row, fields_in};
 ghost use Rattle.c_tables.specs.Tables.{tables_shape, field_shape};
 ghost use Rattle.c_walk.specs.ItemView.{direct_shape, place_shape};
 ghost use Rattle.c_walk.specs.Places.{field_text};
-ghost use Rattle.c_sites.specs.Names.{leaves, field_leaves, leaf_name, site_names};
+ghost use Rattle.c_sites.specs.Names.{leaves, field_leaves, leaf_name, own_names, site_names};
 ghost use Rattle.c_sites.specs.Elements.{elements_text, element_leaves};
 ghost use Rattle.c_sites.specs.Spelled.{AreNamed};
 ghost use Rattle.c_sites.specs.SpellingView.{IsNamed};
@@ -173,6 +173,23 @@ fn put_field(
 }
 
 // ---- sites
+
+/// The number of a place's own name, by itself; of an indirect site there is none.
+pub fn own_numbers(
+    alloc: Global,
+    names: &mut Names,
+    place: &Option<Direct>,
+) -> Result<NumberList, NoMemory>
+    ensures { IfOk result (AreNamed names.old names.new (own_names (place_shape place.now)) []) }
+{
+    match place {
+        None => Ok(NumberList::new(alloc)),
+        Some(place) => {
+            let text = bytes(alloc, &place.name)?;
+            scalar_numbers(alloc, names, place.variable, text)
+        }
+    }
+}
 
 /// The numbers of a site's leaf names, in their order; of an indirect site there are none. Each leaf name is looked up once.
 pub fn site_numbers(

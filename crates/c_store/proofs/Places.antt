@@ -67,12 +67,12 @@ abbrev Empty : Option Slot → Type 0
 Empty None = Unit {0}
 Empty (Some s) = ⊥
 
-same_slot : (all : List Instance) (i : ℕ) (item : Instance) (s : Slot) → slice_get (map slot_of all) i ≡ Some s → item ≡ get_or all i item → s ≡ slot_of item
+pub same_slot : (all : List Instance) (i : ℕ) (item : Instance) (s : Slot) → slice_get (map slot_of all) i ≡ Some s → item ≡ get_or all i item → s ≡ slot_of item
 same_slot [] i item s g e = absurd (subst Empty g tt)
 same_slot (x ∷ all) zero item s g e = sym (ap (λ o. the o s) g) ∙ ap slot_of (sym e)
 same_slot (x ∷ all) (suc i) item s g e = same_slot all i item s g e
 
-chosen : {A : Type 0} (b : Bool) (x y : A) → b ≡ true → (if b then x else y) ≡ x
+pub chosen : {A : Type 0} (b : Bool) (x y : A) → b ≡ true → (if b then x else y) ≡ x
 chosen b x y e = rw e refl
 
 pub write_done : (now : Cells) (most made : ℕ) (all : List Instance) (p : Pointer) (v : Value) (i : ℕ) (item y : Instance) → record { most = most; count = made; live = map slot_of all } ≡ now → IsElement p now.live (Ok i) → item ≡ get_or all i item → item.writable ≡ true → slot_of y ≡ with_value (slot_of item) (cell_of p) v → write_of now p v ≡ Ok (record { most = most; count = made; live = map slot_of (slice_set all i y) })
@@ -84,7 +84,7 @@ write_done now most made all p v i item y view element e w sy =
     let Q : Cells → Type 0 = λ c. write_of c p v ≡ Ok (record { most = most; count = made; live = map slot_of (slice_set all i y) }) in
     subst Q view (rw f (chosen _ _ _ w ∙ ap (λ l. Ok (record { most = most; count = made; live = l })) g))
 
-inside_first : (p : Pointer) (n : ℕ) → is_inside p n ≡ true → cell_of p < n
+pub inside_first : (p : Pointer) (n : ℕ) → is_inside p n ≡ true → cell_of p < n
 inside_first p n t = grind (arith, nat_tests)
 
 pub room_at : (now : Cells) (most made : ℕ) (all : List Instance) (p : Pointer) (i : ℕ) (item : Instance) → record { most = most; count = made; live = map slot_of all } ≡ now → IsElement p now.live (Ok i) → item ≡ get_or all i item → cell_of p < length (cells_in item.cells)

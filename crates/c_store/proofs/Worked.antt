@@ -1,11 +1,13 @@
 -- Worked values of the definitions.
-use Rattle.std.proofs.Common.{◌≡◌, ℕ, pos, negsuc, [], ◌∷◌, Some, None, Ok, Err, true, false, refl}
+use Rattle.std.proofs.Common.{◌≡◌, ℕ, pos, negsuc, List, [], ◌∷◌, Option, Some, None, Ok, Err, true, false, refl}
+use Rattle.c_store.specs.declared.value.Value.{Value}
 use Rattle.c_store.specs.declared.value.Value.TheVariants.{Int, Null, At}
 use Rattle.c_store.specs.declared.value.Pointer.{Pointer}
 use Rattle.c_store.specs.declared.value.Order.TheVariants.{Lt, Ge, Eq, Ne}
 use Rattle.c_store.specs.declared.value.MakeErr.TheVariants.{Room}
 use Rattle.c_store.specs.declared.value.Fault.TheVariants.{Null as NullUsed, Dangling, OutOfBounds, Uninitialised, OtherArray, WriteLiteral}
 use Rattle.c_store.specs.Cells.{Cells, cell_count, signed_char, literal_cells, made, ended, read_of, write_of, selected, stepped, compared, differed}
+use Rattle.c_store.specs.Copies.{copy_of, reach_of}
 
 abbrev empty : ℕ → Cells
 empty most = record { most = most; count = 0; live = [] }
@@ -105,3 +107,51 @@ one_cell = refl
 
 null_is_null : compared Ne Null Null ≡ Ok false
 null_is_null = refl
+
+-- ---- copies: an instance of three cells, of which the second has no value, and one of four
+
+abbrev cells : ℕ → ℕ → ℕ → ℕ → List (Option Value)
+cells a b c d = Some (Int (pos a)) ∷ Some (Int (pos b)) ∷ Some (Int (pos c)) ∷ Some (Int (pos d)) ∷ []
+
+abbrev both : List (Option Value) → Cells
+both four = record { most = 9; count = 2; live = record { number = 1; writable = true; cells = Some (Int (pos 1)) ∷ None ∷ Some (Int (pos 3)) ∷ [] } ∷ record { number = 2; writable = true; cells = four } ∷ [] }
+
+-- the element of two cells that begins at a cell
+abbrev two_at : ℕ → ℕ → Pointer
+two_at instance base = record { instance = instance; base = base; length = 1; size = 2; index = 0 }
+
+no_value_copied : copy_of (both (cells 7 8 9 10)) (two_at 1 0) (two_at 2 1) ≡ Ok (both (Some (Int (pos 7)) ∷ Some (Int (pos 1)) ∷ None ∷ Some (Int (pos 10)) ∷ []))
+no_value_copied = refl
+
+next_element : copy_of (both (cells 7 8 9 10)) (record { instance = 2; base = 0; length = 2; size = 2; index = 0 }) (record { instance = 2; base = 0; length = 2; size = 2; index = 1 }) ≡ Ok (both (cells 7 8 7 8))
+next_element = refl
+
+onto_itself : copy_of (both (cells 7 8 9 10)) (two_at 1 0) (two_at 1 0) ≡ Ok (both (cells 7 8 9 10))
+onto_itself = refl
+
+overlap_up : copy_of (both (cells 7 8 9 10)) (two_at 2 0) (two_at 2 1) ≡ Ok (both (cells 7 7 8 10))
+overlap_up = refl
+
+overlap_down : copy_of (both (cells 7 8 9 10)) (two_at 2 1) (two_at 2 0) ≡ Ok (both (cells 8 9 9 10))
+overlap_down = refl
+
+source_outside : copy_of (both (cells 7 8 9 10)) (two_at 1 2) (two_at 3 0) ≡ Err OutOfBounds
+source_outside = refl
+
+target_ended : copy_of (both (cells 7 8 9 10)) (two_at 1 1) (two_at 3 0) ≡ Err Dangling
+target_ended = refl
+
+target_outside : copy_of (both (cells 7 8 9 10)) (two_at 2 2) (two_at 1 2) ≡ Err OutOfBounds
+target_outside = refl
+
+literal_kept : copy_of text (two_at 1 0) (two_at 1 1) ≡ Err WriteLiteral
+literal_kept = refl
+
+reached_without_value : reach_of (both (cells 7 8 9 10)) (two_at 1 0) ≡ Ok tt
+reached_without_value = refl
+
+not_reached : reach_of (both (cells 7 8 9 10)) (two_at 1 2) ≡ Err OutOfBounds
+not_reached = refl
+
+ended_not_reached : reach_of (both (cells 7 8 9 10)) (two_at 3 0) ≡ Err Dangling
+ended_not_reached = refl

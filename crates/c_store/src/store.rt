@@ -4,6 +4,8 @@ ghost use Rattle.std.specs.Prelude.{◌≡◌, suc, length, take, drop, ◌++◌
 ghost use Rattle.c_store.specs.Held.{cells_in};
 ghost use Rattle.c_store.specs.Cells.{slot_of, cell_of, is_inside, is_same, is_one_array, literal_cells, signed_char, IsPlace, Ascending, Slot, element_in, read_in};
 
+mod copying;
+
 use crate::instance::{Held, Instance};
 use crate::value::{Fault, MakeErr, Order, Pointer, Value};
 use std::alloc::{AllocError, Global};

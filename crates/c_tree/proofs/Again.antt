@@ -4,13 +4,14 @@ use Rattle.std.proofs.Common.{◌≡◌, ℕ, ℤ, pos, List, [], ◌∷◌, ◌
 use Rattle.c_base.specs.declared.place.Pos.{Pos}
 use Rattle.c_syntax.specs.declared.tree.Named.{Named}
 use Rattle.c_syntax.specs.declared.tree.Star.{Star}
-use Rattle.c_syntax.specs.Shape.{TypeOf, int, test, Leaf, number, char, str, name, Prefix, unary, before, size_of, Infix, NodeShape, node, ExprShape, leaf, paren, call, prefix, size_of_type, cast, suffix, two, choose, probe, SuffixShape, index, field, behind, ProbeShape, simple, select, NodeShapes, no_nodes, more_nodes, MaybeNode, no_node, one_node, LengthShapes, no_lengths, more_lengths, TypeShape, type_name, SpecShapes, no_specs, more_specs, SpecShape, word, struct, enum, MaybeDecls, no_members, members, MaybeEnumers, no_rows, rows, EnumerShapes, no_enumers, more_enumers, DeclShape, decl, DeclShapes, no_decls, more_decls, DeclaratorShape, declarator, DeclaratorShapes, no_declarators, more_declarators, DeclFormShape, arrays, function, ParamsShape, MaybeInit}
+use Rattle.c_syntax.specs.Shape.{TypeOf, int, block, test, used, def, Leaf, number, char, str, name, Prefix, unary, before, size_of, Infix, NodeShape, node, ExprShape, leaf, paren, call, prefix, size_of_type, cast, suffix, two, choose, probe, SuffixShape, index, field, behind, ProbeShape, simple, select, NodeShapes, no_nodes, more_nodes, MaybeNode, no_node, one_node, LengthShapes, no_lengths, more_lengths, TypeShape, type_name, SpecShapes, no_specs, more_specs, SpecShape, word, struct, enum, MaybeDecls, no_members, members, MaybeEnumers, no_rows, rows, EnumerShapes, no_enumers, more_enumers, DeclShape, decl, DeclShapes, no_decls, more_decls, DeclaratorShape, declarator, DeclaratorShapes, no_declarators, more_declarators, DeclFormShape, arrays, function, ParamsShape, MaybeInit}
 use Rattle.c_constants.specs.Constants as constants
 use Rattle.c_tables.specs.Tables.{FieldShape}
+use Rattle.c_tree.specs.declared.meaning.Side.{Side}
 use Rattle.c_tree.specs.State.{State, step, steps, complain, demand, is_clean}
 use Rattle.c_tree.specs.Rulings.{rule, kind_at}
 use Rattle.c_tree.specs.Sorts.{Formed, formed, TypedNode, TypedType, noted, pos_in}
-use Rattle.c_tree.specs.Operators.{Given, given_at, claim, called, typed_call, typed_cast, typed_index, typed_infix, typed_choice, typed_select}
+use Rattle.c_tree.specs.Operators.{Given, given_at, claim, called, typed_call, typed_cast, typed_index, typed_infix, typed_choice, typed_select, left_of, right_of, sided, kept_side, entering}
 use Rattle.c_tree.specs.Parts.{Length, length_of, left_out, judged_length, TypedLengths, one_length, open_length, judged_constant, TypedCases, one_case, TypedNodes, one_more, Spelled, unspelled, spelled_rule, with_tagged, more_spec, TypedSpecs, TypedSpec, TypedDecls, TypedNames, star_tokens, pointed, arrays_of, is_free, with_field, field_state, entity_of, declare, after, TypedRows, Valued, given_value, tag_tokens, enumeration, kind_if, opened, begun_at, within, outside, closed, structure_kind}
 use Rattle.c_tables.specs.Rows.{text_of, name_pos}
 use Rattle.c_tree.specs.State.{field_type}
@@ -30,6 +31,10 @@ opening_again gs (more_nodes a rest) s = refl
 -- an operator between two operands, the left of which begins at that place
 abbrev between : Pos → State → Pos → Infix → TypedNode → TypedNode → Formed
 between o s p u t v = formed (two u t.node v.node) (typed_infix t.state.at o s.at p u t.sort v.sort v.state)
+
+-- where its right operand begins
+abbrev behind_left : Infix → TypedNode → State
+behind_left u t = sided (right_of u t.sort.kind) (step t.state)
 
 abbrev chosen : Pos → TypedNode → TypedNode → TypedNode → Formed
 chosen o t v w = formed (choose t.node v.node w.node) (typed_choice t.state.at o t.sort v.sort w.sort w.state)
@@ -51,9 +56,35 @@ member stars x i l n = record { names = more_declarators (declarator stars x (ar
 abbrev enumerator : Named → Valued → TypedRows → TypedRows
 enumerator x r l = record { rows = more_enumers x r.node l.rows; state = l.state }
 
+-- where it stands, as far as a form that was typed looks through
+side_again : (p o : Pos) (f : ExprShape) (s : State) (d : Side) → kept_side (type_form p o f s).form d ≡ kept_side f d
+side_again p o (leaf (number t)) s d = refl
+side_again p o (leaf (char c)) s d = refl
+side_again p o (leaf (str t)) s d = refl
+side_again p o (leaf (name x)) s d = refl
+side_again p o (paren a) s d = refl
+side_again p o (call x args) s d = refl
+side_again p o (prefix (unary v) a) s d = refl
+side_again p o (prefix (before v) a) s d = refl
+side_again p o (prefix size_of a) s d = refl
+side_again p o (size_of_type t) s d = refl
+side_again p o (cast t a) s d = refl
+side_again p o (suffix a (index b)) s d = refl
+side_again p o (suffix a (field h x q)) s d = refl
+side_again p o (suffix a (behind v)) s d = refl
+side_again p o (two v a b) s d = refl
+side_again p o (choose a b c) s d = refl
+side_again p o (probe (simple block x) a) s d = refl
+side_again p o (probe (simple test x) a) s d = refl
+side_again p o (probe (simple used x) a) s d = refl
+side_again p o (probe (simple def x) a) s d = refl
+side_again p o (probe (select x cs) a) s d = refl
+
 mutual
   pub node_again : (a : NodeShape) (s u : State) → type_node (type_node a s).node u ≡ type_node a u
-  node_again (node p o n f) s u = ap (noted p o u) (form_again p o f s u)
+  node_again (node p o n f) s u =
+      ap (λ d. noted p o u (type_form p o (type_form p o f (entering f s)).form (sided d u))) (side_again p o f (entering f s) u.side)
+      ∙ ap (noted p o u) (form_again p o f (entering f s) (entering f u))
 
   pub form_again : (p o : Pos) (f : ExprShape) (s u : State) → type_form p o (type_form p o f s).form u ≡ type_form p o f u
   form_again p o (leaf (number t)) s u = refl
@@ -75,9 +106,11 @@ mutual
   form_again p o (suffix a (field h x q)) s u = rw (node_again a _ u) refl
   form_again p o (suffix a (behind v)) s u = rw (pos_again a _, node_again a _ u) refl
   form_again p o (two v a b) s u =
-      let x = (type_node b (step (type_node a s).state)).node in
-      ap (λ q. between o u q v (type_node (type_node a s).node u) (type_node x (step (type_node (type_node a s).node u).state))) (pos_again a s)
-      ∙ chain (between o u (pos_in a) v) (λ t. type_node x (step t.state)) (λ t. type_node b (step t.state)) _ _ (node_again a s u) (λ t. node_again b (step (type_node a s).state) (step t.state))
+      let w = behind_left v (type_node a (sided (left_of v) s)) in
+      let x = (type_node b w).node in
+      let y = (type_node a (sided (left_of v) s)).node in
+      ap (λ q. between o u q v (type_node y (sided (left_of v) u)) (type_node x (behind_left v (type_node y (sided (left_of v) u))))) (pos_again a (sided (left_of v) s))
+      ∙ chain (between o u (pos_in a) v) (λ t. type_node x (behind_left v t)) (λ t. type_node b (behind_left v t)) _ _ (node_again a (sided (left_of v) s) (sided (left_of v) u)) (λ t. node_again b w (behind_left v t))
   form_again p o (choose a b c) s u =
       let x = (type_node b (step (type_node a s).state)).node in
       let y = (type_node c (step (type_node b (step (type_node a s).state)).state)).node in

@@ -46,7 +46,7 @@ filled_form (Some n) p o (probe (simple u x) a) s = refl
 filled_form (Some n) p o (probe (select x cs) a) s = refl
 
 filled_again : (c : Option ℕ) (a : NodeShape) (s : State) → filled c (form_in (type_node a s).node) ≡ filled c (form_in a)
-filled_again c (node p o n f) s = filled_form c p o f s
+filled_again c (node p o n f) s = filled_form c p o f _
 
 length_form : (p o : Pos) (f : ExprShape) (s : State) → length_in_form (type_form p o f s).form ≡ length_in_form f
 length_form p o (leaf (number t)) s = refl
@@ -95,7 +95,7 @@ count_again l no_inits s = refl
 count_again l (more_inits i rest) s = ap (λ n. 1 + n) (count_again (further l) rest _)
 
 length_one : (a : NodeShape) (s : State) → length_in (one (type_node a s).node) ≡ length_in (one a)
-length_one (node p o n f) s = length_form p o f s
+length_one (node p o n f) s = length_form p o f _
 
 pub length_again : (i : InitShape) (c : Bool) (k : Option TypeOf) (s : State) → length_in (type_init c k i s).init ≡ length_in i
 length_again (one a) c k s = ap length_in (one_is (filled (chars_of k) (form_in a)) c k a s) ∙ length_one a _

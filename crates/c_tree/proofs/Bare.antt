@@ -30,7 +30,7 @@ bare_of p o f = node p o bare f
 
 mutual
   pub node_bare : (a : NodeShape) (s : State) → bare_node (type_node a s).node ≡ bare_node a
-  node_bare (node p o n f) s = ap (bare_of p o) (form_bare p o f s)
+  node_bare (node p o n f) s = ap (bare_of p o) (form_bare p o f _)
 
   pub form_bare : (p o : Pos) (f : ExprShape) (s : State) → bare_form (type_form p o f s).form ≡ bare_form f
   form_bare p o (leaf (number t)) s = refl

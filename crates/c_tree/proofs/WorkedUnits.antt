@@ -10,7 +10,7 @@ use Rattle.c_syntax.specs.declared.tree.Named.{Named}
 use Rattle.c_syntax.specs.declared.tree.Star.{Star}
 use Rattle.c_syntax.specs.declared.tree.BinaryOp.TheVariants as op
 use Rattle.c_syntax.specs.declared.tree.UnaryOp.TheVariants as front
-use Rattle.c_syntax.specs.Shape.{array, int, bare, number, str, name, size_of, unary, plain, and, assign, dot, NodeShape, node, ExprShape, leaf, paren, call, prefix, suffix, two, choose, field, NodeShapes, no_nodes, MaybeNode, no_node, one_node, LengthShapes, no_lengths, more_lengths, SpecShapes, no_specs, more_specs, SpecShape, word, struct, enum, rows, EnumerShapes, no_enumers, more_enumers, no_members, members, DeclShape, decl, DeclShapes, no_decls, more_decls, DeclaratorShape, declarator, DeclaratorShapes, no_declarators, more_declarators, arrays, function, void, params, MaybeInit, no_init, one_init, one, listed, InitShapes, no_inits, more_inits, LabelShape, case, StmtShape, stmt, FormShape, simply, switch, break, return, CompoundShape, braces, ItemShapes, no_items, more_items, ExternalShape, defined, declared, UnitShape}
+use Rattle.c_syntax.specs.Shape.{array, int, bare, number, str, name, size_of, unary, plain, and, assign, comma, dot, Probing, used, def, NodeShape, node, ExprShape, leaf, paren, call, prefix, suffix, two, choose, probe, field, simple, NodeShapes, no_nodes, MaybeNode, no_node, one_node, LengthShapes, no_lengths, more_lengths, SpecShapes, no_specs, more_specs, SpecShape, word, struct, enum, rows, EnumerShapes, no_enumers, more_enumers, no_members, members, DeclShape, decl, DeclShapes, no_decls, more_decls, DeclaratorShape, declarator, DeclaratorShapes, no_declarators, more_declarators, arrays, function, void, params, MaybeInit, no_init, one_init, one, listed, InitShapes, no_inits, more_inits, LabelShape, case, StmtShape, stmt, FormShape, simply, switch, break, return, CompoundShape, braces, ItemShapes, no_items, more_items, ExternalShape, defined, declared, UnitShape}
 use Rattle.c_tree.specs.declared.meaning.Complaint.{Complaint}
 use Rattle.c_tree.specs.State.{complaint}
 use Rattle.c_tree.specs.Units.{typed_unit, complaints}
@@ -44,6 +44,12 @@ of specs d = decl p specs (more_declarators d no_declarators)
 -- text of one letter, and of a digit
 abbrev a : Text
 a = 97 ∷ []
+
+abbrev b : Text
+b = 98 ∷ []
+
+abbrev c : Text
+c = 99 ∷ []
 
 abbrev f : Text
 f = 102 ∷ []
@@ -213,3 +219,67 @@ three_elements = refl
 
 no_objects : (typed_unit with_string).state.tables.literals ≡ []
 no_objects = refl
+
+-- ---- structures: struct s{int f;};struct s a;struct s b;struct s c;int main(void){e;return 0;}, where e begins at token 26
+abbrev of_s : Text → ExternalShape
+of_s t = declared (of (tagged s) (variable [] t no_lengths no_init))
+
+abbrev with_structures : NodeShape → List Complaint
+with_structures e = complaints (unit (declared (decl p with_f no_declarators) ∷ of_s a ∷ of_s b ∷ of_s c ∷ main_with no_decls (expression e (give zero_)) ∷ []))
+
+abbrev gets : NodeShape → NodeShape → NodeShape
+gets l r = n (two (assign None) l r)
+
+abbrev in_parens : NodeShape → NodeShape
+in_parens e = n (paren e)
+
+abbrev probed : Probing → Text → NodeShape
+probed u t = n (probe (simple u (49 ∷ [])) (use_ t))
+
+-- a=b
+structure_copied : with_structures (gets (use_ a) (use_ b)) ≡ []
+structure_copied = refl
+
+-- a=b=c : a copy gives no value
+copied_twice : with_structures (gets (use_ a) (gets (use_ b) (use_ c))) ≡ at 27 33
+copied_twice = refl
+
+-- a=(1,b) : the right side is no place
+copied_value : with_structures (gets (use_ a) (in_parens (n (two comma one_ (use_ b))))) ≡ at 27 33
+copied_value = refl
+
+-- a=__atac_use(1,b)
+use_copied : with_structures (gets (use_ a) (probed used b)) ≡ []
+use_copied = refl
+
+-- a=(__atac_use(1,b))
+use_in_parens : with_structures (gets (use_ a) (in_parens (probed used b))) ≡ []
+use_in_parens = refl
+
+-- __atac_use(1,b)
+use_alone : with_structures (probed used b) ≡ at 26 33
+use_alone = refl
+
+-- __atac_use(1,a)=b
+use_to_the_left : with_structures (gets (probed used a) (use_ b)) ≡ at 26 33
+use_to_the_left = refl
+
+-- a.f=__atac_use(1,b) : the left side is no structure
+use_of_other : with_structures (gets (n (suffix (use_ a) (field dot f p))) (probed used b)) ≡ at 30 33
+use_of_other = refl
+
+-- __atac_def(1,a)=b
+def_copied : with_structures (gets (probed def a) (use_ b)) ≡ []
+def_copied = refl
+
+-- (__atac_def(1,a))=b
+def_in_parens : with_structures (gets (in_parens (probed def a)) (use_ b)) ≡ []
+def_in_parens = refl
+
+-- a=__atac_def(1,b)
+def_to_the_right : with_structures (gets (use_ a) (probed def b)) ≡ at 28 33
+def_to_the_right = refl
+
+-- a=(__atac_def(1,b))
+def_to_the_right_in_parens : with_structures (gets (use_ a) (in_parens (probed def b))) ≡ at 29 33
+def_to_the_right_in_parens = refl

@@ -9,10 +9,10 @@ use Rattle.c_syntax.specs.declared.text.Text.{Text}
 use Rattle.c_syntax.specs.declared.tree.UnaryOp.{UnaryOp}
 use Rattle.c_syntax.specs.declared.tree.UnaryOp.TheVariants as front
 use Rattle.c_syntax.specs.declared.tree.BinaryOp.{BinaryOp}
-use Rattle.c_syntax.specs.Shape.{TypeOf, int, pointer, array, structure, known, number, name, before, Infix, plain, and, or, assign, comma, Access, dot, arrow, Probing, block, test, used, def, two, probe, field, behind, select, function}
+use Rattle.c_syntax.specs.Shape.{TypeOf, int, pointer, array, structure, known, number, name, before, Infix, plain, and, or, assign, comma, Access, dot, arrow, Probing, block, test, used, def, ExprShape, paren, two, probe, simple, field, behind, select, function}
 use Rattle.c_type_rules.specs.Layouts.{Measure}
-use Rattle.c_type_rules.specs.Verdicts.{binary_type, truth_type, logical_type, conditional_type, fits_type, compound_type, step_type, promoted_type, target_type, element_type, address_type, structure_type, pointed_type, cast_type, scalar_type}
-use Rattle.c_type_rules.specs.Kinds.{decay}
+use Rattle.c_type_rules.specs.Verdicts.{binary_type, truth_type, logical_type, conditional_type, fits_type, assigned_type, compound_type, step_type, promoted_type, target_type, element_type, address_type, structure_type, pointed_type, cast_type, probed_type}
+use Rattle.c_type_rules.specs.Kinds.{decay, is_structure}
 use Rattle.c_constants.specs.declared.numbers.Number.{Number}
 use Rattle.c_constants.specs.Numbers.{number_of}
 use Rattle.c_constants.specs.declared.constants.Constant.{Constant}
@@ -24,6 +24,8 @@ use Rattle.c_scopes.specs.Scoping.{find, named}
 use Rattle.c_tables.specs.Tables.{FunctionShape, VariableShape}
 use Rattle.c_tree.specs.declared.meaning.Entity.{Entity}
 use Rattle.c_tree.specs.declared.meaning.Entity.TheVariants as entity
+use Rattle.c_tree.specs.declared.meaning.Side.{Side}
+use Rattle.c_tree.specs.declared.meaning.Side.TheVariants.{Neither, Left, Right}
 use Rattle.c_tree.specs.State.{Seen, State, step, complain, demand, fields_of, field_type, Numbered, mention, counts}
 use Rattle.c_tables.specs.Rows.{row}
 use Rattle.c_tree.specs.Rulings.{Ruled, allowed, unsettled, refused, by, then_rule, kind_at, rule, of_kind, allowed_if, whole, object, complete, moved, size_constant, sized, as_size, cast_constant, element_constant, comma_kind}
@@ -208,12 +210,39 @@ typed_and token o a b s = logical token o (constants.both a.constant b.constant)
 abbrev pub typed_or : ℕ → Pos → Sort → Sort → State → Outcome
 typed_or token o a b s = logical token o (constants.either a.constant b.constant) a b s
 
+-- where an operand of the operator stands: the right one, where the left one has that type; a structure may be unknown
+abbrev pub left_of : Infix → Side
+left_of (assign None) = Left
+left_of _ = Neither
+
+abbrev pub may_copy : Option TypeOf → Side
+may_copy None = Right
+may_copy (Some t) = if is_structure t then Right else Neither
+
+abbrev pub right_of : Infix → Option TypeOf → Side
+right_of (assign None) k = may_copy k
+right_of _ k = Neither
+
+abbrev pub sided : Side → State → State
+sided d s = record s { side = d }
+
+-- parentheses are looked through, and so are the probes of places
+abbrev pub kept_side : ExprShape → Side → Side
+kept_side (paren a) d = d
+kept_side (probe (simple used x) a) d = d
+kept_side (probe (simple def x) a) d = d
+kept_side _ d = Neither
+
+-- an expression of that form begins
+abbrev pub entering : ExprShape → State → State
+entering f s = sided (kept_side f s.side) s
+
 -- the left side is a place; nothing is said of it where a complaint stands inside the right one
 abbrev pub left_side : Sort → Sort → Ruled
 left_side a b = of_kind b.kind (λ t. changeable a)
 
 abbrev pub assigned_rule : Option BinaryOp → List Measure → Sort → Sort → Ruled
-assigned_rule None rooms a b = by wrong_type (fits_type (kind_at (left_side a b)) b.kind (null b))
+assigned_rule None rooms a b = by wrong_type (assigned_type (kind_at (left_side a b)) b.kind (null b) b.place)
 assigned_rule (Some u) rooms a b = then_rule (by wrong_type (compound_type u (kind_at (left_side a b)) b.kind)) (moved rooms)
 
 -- the left side begins at the second of the tokens, at that place
@@ -296,11 +325,17 @@ claim u x token p s = claimed u x token p (probe_number_of x) (named x (seen_of 
 abbrev pub as_decayed : TypeOf → Ruled
 as_decayed t = allowed (decay t)
 
--- a block round anything; a test round a scalar; the other two round a place of one
-abbrev pub probe_rule : Probing → Sort → Ruled
-probe_rule block a = of_kind a.kind as_decayed
-probe_rule test a = then_rule (by wrong_type (truth_type a.kind)) (λ t. of_kind a.kind as_decayed)
-probe_rule _ a = then_rule (by wrong_type (scalar_type a.kind)) (allowed_if a.place wrong_type)
+-- a probe of a definition to the left of `=`, or of a use to the right of a structure's, is one of each cell that is copied
+abbrev pub is_copied : Probing → Side → Bool
+is_copied used Right = true
+is_copied def Left = true
+is_copied u d = false
+
+-- a block round anything; a test round a scalar; the other two round a place of one, or of a structure that is copied
+abbrev pub probe_rule : Probing → Side → Sort → Ruled
+probe_rule block d a = of_kind a.kind as_decayed
+probe_rule test d a = then_rule (by wrong_type (truth_type a.kind)) (λ t. of_kind a.kind as_decayed)
+probe_rule u d a = then_rule (by wrong_type (probed_type (is_copied u d) a.kind)) (allowed_if a.place wrong_type)
 
 abbrev pub probe_sort : Probing → Option TypeOf → Constant → Sort
 probe_sort block k c = a_value k (constants.probed c)
@@ -308,8 +343,9 @@ probe_sort test k c = a_value k (constants.probed c)
 probe_sort used k c = a_place k c
 probe_sort def k c = a_place k c
 
-abbrev pub typed_probe : ℕ → Pos → Probing → Sort → State → Outcome
-typed_probe token p u a s = comes_to (plainly (probe_sort u (kind_at (probe_rule u a)) a.constant)) (step (rule (probe_rule u a) token p s))
+-- on that side of an assignment
+abbrev pub typed_probe : ℕ → Pos → Probing → Side → Sort → State → Outcome
+typed_probe token p u d a s = comes_to (plainly (probe_sort u (kind_at (probe_rule u d a)) a.constant)) (step (rule (probe_rule u d a) token p s))
 
 abbrev pub is_there : Option ℤ → Bool
 is_there None = false

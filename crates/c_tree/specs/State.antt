@@ -13,6 +13,7 @@ use Rattle.c_tables.specs.Tables.{FieldShape, StructShape, FunctionShape, Variab
 use Rattle.c_tree.specs.declared.meaning.Complaint.{Complaint}
 use Rattle.c_tree.specs.declared.meaning.Entity.{Entity}
 use Rattle.c_tree.specs.declared.meaning.Entity.TheVariants.{Variable, Function}
+use Rattle.c_tree.specs.declared.meaning.Side.{Side}
 use Rattle.c_tree.specs.declared.meaning.Tag.{Tag}
 
 -- the numbers of probes that were seen, each as it is spelled; tests and selects are one kind
@@ -38,6 +39,8 @@ pub record State : Type 0 where
   pub seen : Seen
   -- inside a sizeof, where a string is no object
   pub quiet : Bool
+  -- where the expression stands that begins here
+  pub side : Side
   -- at file scope, outside of member and parameter lists
   pub file : Bool
   -- the number of the function, or 0

@@ -13,7 +13,7 @@ use Rattle.c_tables.specs.Tables.{FieldShape}
 use Rattle.c_tree.specs.State.{State, steps, step, complain, demand, is_clean, field_type}
 use Rattle.c_tree.specs.Rulings.{by, kind_at, rule}
 use Rattle.c_tree.specs.Sorts.{Formed, formed, TypedNode, TypedType, noted, pos_in}
-use Rattle.c_tree.specs.Operators.{Given, given_at, typed_number, typed_char, typed_string, typed_name, called, typed_call, typed_paren, typed_unary, typed_step, hushed, heard, typed_size, typed_type_size, typed_cast, typed_infix, typed_choice, typed_index, typed_field, claim, typed_probe, typed_select}
+use Rattle.c_tree.specs.Operators.{Given, given_at, typed_number, typed_char, typed_string, typed_name, called, typed_call, typed_paren, typed_unary, typed_step, hushed, heard, typed_size, typed_type_size, typed_cast, typed_infix, typed_choice, typed_index, typed_field, claim, typed_probe, typed_select, left_of, right_of, sided, entering}
 use Rattle.c_tree.specs.Parts.{Length, left_out, length_of, TypedNodes, no_more, one_more, TypedCases, no_cases, judged_constant, one_case, TypedLengths, no_more_lengths, judged_length, open_length, one_length, pointed, star_tokens, arrays_of, Spelled, TypedSpecs, TypedSpec, unspelled, with_word, with_tagged, static_fits, spelled_rule, more_spec, begun_at, opened, tag_tokens, closed, structure_kind, kind_if, within, outside, TypedDecls, TypedNames, is_free, with_field, field_state, TypedRows, Valued, given_value, next_value, entity_of, declare, after, enumeration}
 use Rattle.c_tables.specs.Rows.{text_of, name_pos}
 use Rattle.c_tree.specs.Complaints.{stray, wrong_type}
@@ -27,7 +27,7 @@ opening (more_nodes a rest) = 1
 
 abbrev mutual
   pub type_node : NodeShape → State → TypedNode
-  type_node (node p o n f) s = noted p o s (type_form p o f s)
+  type_node (node p o n f) s = noted p o s (type_form p o f (entering f s))
 
   pub type_form : Pos → Pos → ExprShape → State → Formed
   type_form p o (leaf (number t)) s = formed (leaf (number t)) (typed_number p t s)
@@ -68,8 +68,8 @@ abbrev mutual
       let t = type_node a s in
       formed (suffix t.node (behind u)) (typed_step t.state.at o s.at (pos_in a) t.sort (step t.state))
   type_form p o (two u a b) s =
-      let t = type_node a s in
-      let v = type_node b (step t.state) in
+      let t = type_node a (sided (left_of u) s) in
+      let v = type_node b (sided (right_of u t.sort.kind) (step t.state)) in
       formed (two u t.node v.node) (typed_infix t.state.at o s.at (pos_in a) u t.sort v.sort v.state)
   type_form p o (choose a b c) s =
       let t = type_node a s in
@@ -78,7 +78,7 @@ abbrev mutual
       formed (choose t.node v.node w.node) (typed_choice t.state.at o t.sort v.sort w.sort w.state)
   type_form p o (probe (simple u x) a) s =
       let t = type_node a (steps 4 (claim u x s.at p s)) in
-      formed (probe (simple u x) t.node) (typed_probe s.at p u t.sort t.state)
+      formed (probe (simple u x) t.node) (typed_probe s.at p u s.side t.sort t.state)
   type_form p o (probe (select x cs) a) s =
       let c = steps 3 (claim test x s.at p s) in
       let t = type_cases [] cs c in
@@ -227,7 +227,7 @@ type_size o a s =
 abbrev pub type_probe : Pos → Probing → Text → NodeShape → State → Formed
 type_probe p u x a s =
     let t = type_node a (steps 4 (claim u x s.at p s)) in
-    formed (probe (simple u x) t.node) (typed_probe s.at p u t.sort t.state)
+    formed (probe (simple u x) t.node) (typed_probe s.at p u s.side t.sort t.state)
 
 abbrev pub type_select : Pos → Text → NodeShapes → NodeShape → State → Formed
 type_select p x cs a s =

@@ -12,6 +12,7 @@ use Rattle.c_tables.specs.Tables.{FunctionShape, TablesShape, with_definition}
 use Rattle.c_tree.specs.declared.meaning.Complaint.{Complaint}
 use Rattle.c_tree.specs.declared.meaning.Entity.{Entity}
 use Rattle.c_tree.specs.declared.meaning.Entity.TheVariants as entity
+use Rattle.c_tree.specs.declared.meaning.Side.TheVariants.{Neither}
 use Rattle.c_tables.specs.declared.builtins.Builtin.TheVariants.{GetChar, PutChar, Exit}
 use Rattle.c_tables.specs.Builtins.{builtin_name}
 use Rattle.c_tree.specs.State.{State, step, steps, complain, demand, is_function}
@@ -107,6 +108,7 @@ start known = record {
   listed = [];
   seen = record { blocks = []; tests = []; uses = []; defs = [] };
   quiet = false;
+  side = Neither;
   file = true;
   function = 0;
   known = known;

@@ -22,6 +22,15 @@ pub enum Tag {
     Enumeration,
 }
 
+/// Where an expression stands in an assignment by `=`, parentheses and probes round places looked through: it is its left
+/// side, or its right one where the left one is a structure; or it is neither.
+#[derive(Clone, Copy, Debug, PartialEq, Eq)]
+pub enum Side {
+    Neither,
+    Left,
+    Right,
+}
+
 /// A complaint: the number of its token, counted from 0; its own number; and the token's place.
 #[derive(Clone, Copy, Debug, PartialEq, Eq)]
 pub struct Complaint {

@@ -7,7 +7,7 @@ use Rattle.c_type_rules.specs.declared.kinds.Radix.TheVariants.{Octal, Decimal, 
 use Rattle.c_type_rules.specs.declared.extent.Align.TheVariants.{One, Two, Four, Eight}
 use Rattle.c_type_rules.specs.Layouts.{known, incomplete, too_large, measure, structure_measure}
 use Rattle.c_type_rules.specs.Kinds.{promote, meet, constant_type}
-use Rattle.c_type_rules.specs.Verdicts.{fine, unknown, wrong, binary_type, truth_type, conditional_type, fits_type, compound_type, step_type, promoted_type, target_type, element_type, address_type, size_type, cast_type}
+use Rattle.c_type_rules.specs.Verdicts.{fine, unknown, wrong, binary_type, truth_type, conditional_type, fits_type, assigned_type, probed_type, compound_type, step_type, promoted_type, target_type, element_type, address_type, size_type, cast_type}
 
 -- ---- integers
 
@@ -120,8 +120,26 @@ pointer_into_void_pointer = refl
 array_assigned : fits_type (Some (array (int Int) 3)) (Some (array (int Int) 3)) false ≡ wrong
 array_assigned = refl
 
-structure_assigned : fits_type (Some (structure 1)) (Some (structure 1)) false ≡ wrong
+structure_given : fits_type (Some (structure 1)) (Some (structure 1)) false ≡ wrong
+structure_given = refl
+
+structure_assigned : assigned_type (Some (structure 1)) (Some (structure 1)) false true ≡ fine nothing
 structure_assigned = refl
+
+no_place_assigned : assigned_type (Some (structure 1)) (Some (structure 1)) false false ≡ wrong
+no_place_assigned = refl
+
+other_structure_assigned : assigned_type (Some (structure 1)) (Some (structure 2)) false true ≡ wrong
+other_structure_assigned = refl
+
+nothing_assigned : assigned_type (Some (structure 1)) (Some nothing) false false ≡ wrong
+nothing_assigned = refl
+
+structure_probed : probed_type true (Some (structure 1)) ≡ fine (structure 1)
+structure_probed = refl
+
+structure_unprobed : probed_type false (Some (structure 1)) ≡ wrong
+structure_unprobed = refl
 
 -- p += 1 is a pointer, i += p and p -= q and p *= 2 are wrong
 pointer_moved : compound_type op.Add (Some (pointer (int Int))) (Some (int Long)) ≡ fine (pointer (int Int))

@@ -49,6 +49,10 @@ is_scalar (int k) = true
 is_scalar (pointer t) = true
 is_scalar _ = false
 
+abbrev pub is_structure : TypeOf → Bool
+is_structure (structure n) = true
+is_structure _ = false
+
 -- an array as a value is a pointer to its first element
 abbrev pub decay : TypeOf → TypeOf
 decay (array t n) = pointer t

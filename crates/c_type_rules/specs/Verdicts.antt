@@ -1,5 +1,5 @@
 -- What each operator makes of the types of its operands. Inner definitions speak of values, in which an array has become a pointer.
-use Rattle.std.specs.Prelude.{Bool, true, false, ◌||◌, Option, Some, None, if◌then◌else◌}
+use Rattle.std.specs.Prelude.{Bool, true, false, nat_eq, ◌&&◌, ◌||◌, Option, Some, None, if◌then◌else◌}
 use Rattle.c_base.specs.declared.place.IntKind.TheVariants.{Int, Long, ULong}
 use Rattle.c_syntax.specs.Shape.{TypeOf, int, pointer, structure, nothing}
 use Rattle.c_syntax.specs.View.{type_of}
@@ -7,7 +7,7 @@ use Rattle.c_syntax.specs.declared.tree.BinaryOp.{BinaryOp}
 use Rattle.c_syntax.specs.declared.tree.BinaryOp.TheVariants as op
 use Rattle.c_type_rules.specs.declared.judged.Judged.{Judged}
 use Rattle.c_type_rules.specs.declared.judged.Judged.TheVariants.{Fine, Unknown, Wrong}
-use Rattle.c_type_rules.specs.Kinds.{same_type, is_integer, is_scalar, decay, promote, meet}
+use Rattle.c_type_rules.specs.Kinds.{same_type, is_integer, is_scalar, is_structure, decay, promote, meet}
 
 -- ---- verdicts
 
@@ -150,6 +150,15 @@ stored_type _ b n = wrong
 abbrev pub fits_type : Option TypeOf → Option TypeOf → Bool → Verdict
 fits_type to b n = with_two (λ t x. stored_type t (decay x) n) to b
 
+-- one structure on both sides of `=`, of which the right one is a place, is copied (C89, 3.3.16.1)
+abbrev pub is_copy : TypeOf → TypeOf → Bool → Bool
+is_copy (structure m) (structure n) place = nat_eq m n && place
+is_copy _ _ place = false
+
+-- the type of `=`: a copy has no value
+abbrev pub assigned_type : Option TypeOf → Option TypeOf → Bool → Bool → Verdict
+assigned_type to b n place = with_two (λ t x. if is_copy t x place then fine nothing else stored_type t (decay x) n) to b
+
 -- a op= b is a = a op b
 abbrev pub changed_type : BinaryOp → TypeOf → TypeOf → Verdict
 changed_type o a b = on (operator_type o false false a b) (λ t. stored_type a t false)
@@ -231,6 +240,13 @@ cast_type to a = with_two turned_type to a
 -- a place that holds an integer or a pointer
 abbrev pub scalar_type : Option TypeOf → Verdict
 scalar_type a = with_one (λ t. fine_if (is_scalar t) t) a
+
+-- what the probes of uses and definitions stand round: a scalar, and a structure where it is copied
+abbrev pub is_probed : Bool → TypeOf → Bool
+is_probed copied t = is_scalar t || copied && is_structure t
+
+abbrev pub probed_type : Bool → Option TypeOf → Verdict
+probed_type copied a = with_one (λ t. fine_if (is_probed copied t) t) a
 
 -- a parameter: an array is a pointer to its element; then a scalar
 abbrev pub parameter_type : Option TypeOf → Verdict

@@ -3,7 +3,7 @@
 ghost use Rattle.std.specs.Prelude.{◌≡◌, ◌≤◌, ◌↔◌, IsTrue, IfOk, pos};
 ghost use Rattle.c_arith.specs.Arith.{width, InRange, IsPromoted};
 ghost use Rattle.c_syntax.specs.View.{type_of};
-ghost use Rattle.c_type_rules.specs.Kinds.{same_type, is_integer, is_scalar, decay, promote, meet, constant_type};
+ghost use Rattle.c_type_rules.specs.Kinds.{same_type, is_integer, is_scalar, is_structure, decay, promote, meet, constant_type};
 
 use c_base::place::{IntKind, NoMemory};
 use c_syntax::tree::CType;
@@ -80,6 +80,13 @@ pub fn is_scalar(kind: &CType) -> bool
     ensures { result ≡ is_scalar (type_of kind.now) }
 {
     matches!(kind, CType::Int(_) | CType::Pointer(_))
+}
+
+/// Whether it is a structure (C89, 3.1.2.5).
+pub fn is_structure(kind: &CType) -> bool
+    ensures { result ≡ is_structure (type_of kind.now) }
+{
+    matches!(kind, CType::Struct(_))
 }
 
 /// The type as a value has it: an array becomes a pointer to its first element (C89, 3.2.2.1).

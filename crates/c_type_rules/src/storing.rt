@@ -3,10 +3,10 @@
 ghost use Rattle.std.specs.Prelude.{◌≡◌};
 ghost use Rattle.c_syntax.specs.View.{type_of};
 ghost use Rattle.c_type_rules.specs.Kinds.{type_in};
-ghost use Rattle.c_type_rules.specs.Verdicts.{verdict_of, stored_type, fits_type, changed_type, compound_type, moves, step_type, scalar_type, parameter_type, result_type};
+ghost use Rattle.c_type_rules.specs.Verdicts.{verdict_of, stored_type, fits_type, is_copy, assigned_type, changed_type, compound_type, moves, step_type, scalar_type, is_probed, probed_type, parameter_type, result_type};
 
 use crate::judged::{Judged, Operand, fine_if, null_for};
-use crate::kinds::{decayed, is_integer, is_scalar, same};
+use crate::kinds::{decayed, is_integer, is_scalar, is_structure, same};
 use c_syntax::tree::{BinaryOp, CType};
 
 /// Whether the value fits into an object of that type, which is then the type of `=` (C89, 3.3.16.1): an integer into an
@@ -33,6 +33,33 @@ fn stored(to: CType, value: CType, null: bool) -> Judged
             fine_if(fits, to)
         }
         _ => Judged::Wrong,
+    }
+}
+
+/// The type of `=` (C89, 3.3.16.1): what fits is stored, and has the type of the left side; one structure on both sides is
+/// copied, if a place stands to the right, and gives no value.
+pub fn assigned(to: Option<CType>, value: Operand, place: bool) -> Judged
+    ensures { verdict_of result ≡ assigned_type (type_in to) (type_in value.kind) value.null place }
+{
+    match (to, value.kind) {
+        (Some(to), Some(kind)) => {
+            if is_copy(&to, &kind, place) {
+                Judged::Fine(CType::Void)
+            } else {
+                stored(to, decayed(kind), value.null)
+            }
+        }
+        _ => Judged::Unknown,
+    }
+}
+
+// One structure on both sides, a place to the right.
+fn is_copy(to: &CType, kind: &CType, place: bool) -> bool
+    ensures { result ≡ is_copy (type_of to.now) (type_of kind.now) place }
+{
+    match (to, kind) {
+        (CType::Struct(m), CType::Struct(n)) => *m == *n && place,
+        _ => false,
     }
 }
 
@@ -80,7 +107,7 @@ pub fn stepped(kind: Option<CType>) -> Judged
     scalar_place(kind)
 }
 
-/// A place that holds a scalar (C89, 3.1.2.5), as the probes of uses and definitions stand round: its type.
+/// A place that holds a scalar (C89, 3.1.2.5): its type.
 pub fn scalar_place(kind: Option<CType>) -> Judged
     ensures { verdict_of result ≡ scalar_type (type_in kind) }
 {
@@ -89,6 +116,19 @@ pub fn scalar_place(kind: Option<CType>) -> Judged
         Some(kind) => {
             let is_scalar = is_scalar(&kind);
             fine_if(is_scalar, kind)
+        }
+    }
+}
+
+/// What the probes of uses and definitions stand round: a scalar, and a structure where it is copied. It is the place's type.
+pub fn probed_place(copied: bool, kind: Option<CType>) -> Judged
+    ensures { verdict_of result ≡ probed_type copied (type_in kind) }
+{
+    match kind {
+        None => Judged::Unknown,
+        Some(kind) => {
+            let probed = is_scalar(&kind) || copied && is_structure(&kind);
+            fine_if(probed, kind)
         }
     }
 }

@@ -4,7 +4,7 @@ use Rattle.c_syntax.specs.Shape as shape
 use Rattle.c_syntax.specs.Shape.{NodeShape, ProbeShape, simple, select, suffix, index, two}
 use Rattle.c_tree.specs.State.{State, step}
 use Rattle.c_tree.specs.Sorts.{Formed, formed, pos_in}
-use Rattle.c_tree.specs.Operators.{typed_index, typed_infix}
+use Rattle.c_tree.specs.Operators.{left_of, right_of, sided, typed_index, typed_infix}
 use Rattle.c_tree.specs.Typing.{type_node, type_probe, type_select}
 use Rattle.c_types_expr.specs.declared.infix.Access.{Access}
 use Rattle.c_types_expr.specs.declared.infix.Access.TheVariants.{Dot, Arrow}
@@ -34,6 +34,6 @@ type_element o a b s =
 
 abbrev pub type_two : Pos → shape.Infix → NodeShape → NodeShape → State → Formed
 type_two o u a b s =
-    let t = type_node a s in
-    let v = type_node b (step t.state) in
+    let t = type_node a (sided (left_of u) s) in
+    let v = type_node b (sided (right_of u t.sort.kind) (step t.state)) in
     formed (two u t.node v.node) (typed_infix t.state.at o s.at (pos_in a) u t.sort v.sort v.state)

@@ -1,16 +1,19 @@
 // Operators between two operands, and fields.
 
 ghost use Rattle.std.specs.Prelude.{◌≡◌, OnOk, IfOk};
-ghost use Rattle.c_tree.specs.Operators.{typed_infix, typed_field};
+ghost use Rattle.c_type_rules.specs.Kinds.{type_in};
+ghost use Rattle.c_tree.specs.Operators.{left_of, right_of, typed_infix, typed_field};
 ghost use Rattle.c_checker.specs.CheckerView.{state_of};
 ghost use Rattle.c_checker.specs.SortView.{sort_of, typing_of};
 ghost use Rattle.c_types_expr.specs.Forms.{access_of, infix_of};
 
 use c_base::place::{NoMemory, Pos};
 use c_checker::checker::Checker;
+use c_checker::sides::may_copy;
 use c_checker::sort::{Sort, Typing};
 use c_syntax::text::Text;
-use c_syntax::tree::BinaryOp;
+use c_syntax::tree::{BinaryOp, CType};
+use c_tree::meaning::Side;
 
 /// The operators between two operands (C89, 3.3.5 to 3.3.17): those that evaluate both, `&&`, `||`, the assignments, and the
 /// comma.
@@ -32,6 +35,26 @@ pub struct Operands {
     pub token: u32,
     pub left: Sort,
     pub right: Sort,
+}
+
+/// Where the left operand stands in an assignment.
+pub fn left_of(op: Infix) -> Side
+    ensures { result ≡ left_of (infix_of op) }
+{
+    match op {
+        Infix::Assign(None) => Side::Left,
+        _ => Side::Neither,
+    }
+}
+
+/// Where the right one stands, by the left one's type.
+pub fn right_of(op: Infix, left: &Option<CType>) -> Side
+    ensures { result ≡ right_of (infix_of op) (type_in left.now) }
+{
+    match op {
+        Infix::Assign(None) => may_copy(left),
+        _ => Side::Neither,
+    }
 }
 
 /// What an operator comes to, by its operands.

@@ -9,4 +9,5 @@ pub mod lengths;
 mod lists;
 mod members;
 pub mod nodes;
+mod pairs;
 pub mod specifiers;

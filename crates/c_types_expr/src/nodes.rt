@@ -1,20 +1,21 @@
 // The recursion over expressions (C89, 3.3).
 
 ghost use Rattle.std.specs.Prelude.{◌≡◌, OnOk, IfOk};
-ghost use Rattle.c_syntax.specs.Shape.{paren, prefix, unary, size_of, size_of_type, suffix, index, field, two, cast, choose, probe, simple, select};
+ghost use Rattle.c_syntax.specs.Shape.{paren, prefix, unary, size_of, size_of_type, suffix, field, cast, choose, probe, simple, select};
 ghost use Rattle.c_syntax.specs.View.{expr_shape, probe_shape, node_shape, node_list, step_shape, type_shape};
 ghost use Rattle.c_tree.specs.State.{step};
 ghost use Rattle.c_tree.specs.Typing.{type_node, type_form, type_paren, type_unary, type_step, type_size, type_access, type_probe, type_select, type_type_size, type_cast, type_choice};
 ghost use Rattle.c_checker.specs.CheckerView.{state_of};
 ghost use Rattle.c_checker.specs.SortView.{sort_of, typing_of};
 ghost use Rattle.c_checker.specs.ProbeView.{probing_of};
-ghost use Rattle.c_types_expr.specs.declared.groups.Group.TheVariants.{Single, Pair, Other};
-ghost use Rattle.c_types_expr.specs.Forms.{access_of, infix_of, type_probing, type_element, type_two};
+ghost use Rattle.c_types_expr.specs.declared.groups.Group.TheVariants.{Single, Other};
+ghost use Rattle.c_types_expr.specs.Forms.{access_of, type_probing};
 ghost use Rattle.c_types_expr.specs.Groups.{group_of};
 
 use crate::groups::{Group, grouped, type_leaf};
-use crate::infix::{Access, Infix, Operands, typed_access, typed_infix};
+use crate::infix::{Access, typed_access};
 use crate::lists::{type_call, type_cases};
+use crate::pairs::{type_operands, type_pair};
 use crate::specifiers::type_name;
 use c_base::place::{NoMemory, Pos};
 use c_checker::checker::Checker;
@@ -31,6 +32,7 @@ pub fn type_node(checker: &mut Checker, node: &mut Node) -> Result<Sort, NoMemor
     ensures state { OnOk result (state_of checker.new ≡ (type_node (node_shape node.old) (state_of checker.old)).state) }
 {
     let before = checker.complained();
+    checker.enter(&node.form);
     let typing = type_form(checker, node.pos, node.op, &mut node.form)?;
     let clean = before == checker.complained();
     let Typing {
@@ -318,10 +320,11 @@ fn type_probe(
     ensures state { OnOk result (state_of checker.new ≡ (type_probe pos (probing_of probing) number.now (node_shape a.old) (state_of checker.old)).state) }
 {
     let token = checker.at;
+    let side = checker.side;
     checker.claim(probing, number.bytes(), token, pos)?;
     checker.steps(4);
     let sort = type_node(checker, a)?;
-    let typing = checker.typed_probe(token, pos, probing, sort)?;
+    let typing = checker.typed_probe(token, pos, probing, side, sort)?;
     Ok(typing)
 }
 
@@ -347,111 +350,6 @@ fn type_select(
     let sort = type_node(checker, a)?;
     let clean = before == checker.complained();
     let typing = checker.typed_select(token, pos, clean, &values, sort)?;
-    Ok(typing)
-}
-
-// Two operands with a token between them.
-#[cycle(typing)]
-fn type_operands(checker: &mut Checker, a: &mut Node, b: &mut Node) -> Result<Operands, NoMemory>
-    ensures left_tree { OnOk result (node_shape a.new ≡ (type_node (node_shape a.old) (state_of checker.old)).node) }
-    ensures tree { OnOk result (node_shape b.new ≡ (type_node (node_shape b.old) (step (type_node (node_shape a.old) (state_of checker.old)).state)).node) }
-    ensures first { IfOk result (λ o. o.first ≡ (state_of checker.old).at) }
-    ensures pos { IfOk result (λ o. o.pos ≡ a.old.pos) }
-    ensures token { IfOk result (λ o. o.token ≡ (type_node (node_shape a.old) (state_of checker.old)).state.at) }
-    ensures left { IfOk result (λ o. sort_of o.left ≡ (type_node (node_shape a.old) (state_of checker.old)).sort) }
-    ensures right { IfOk result (λ o. sort_of o.right ≡ (type_node (node_shape b.old) (step (type_node (node_shape a.old) (state_of checker.old)).state)).sort) }
-    ensures state { OnOk result (state_of checker.new ≡ (type_node (node_shape b.old) (step (type_node (node_shape a.old) (state_of checker.old)).state)).state) }
-{
-    let first = checker.at;
-    let pos = a.pos;
-    let left = type_node(checker, a)?;
-    let token = checker.at;
-    checker.step();
-    let right = type_node(checker, b)?;
-    Ok(Operands {
-        first,
-        pos,
-        token,
-        left,
-        right,
-    })
-}
-
-// A form with two operands.
-#[cycle(typing)]
-#[tactic(auto, using(crate::proofs::Steps::step_single))]
-fn type_pair(
-    checker: &mut Checker,
-    pos: Pos,
-    op_pos: Pos,
-    form: &mut Expr,
-) -> Result<Typing, NoMemory>
-    requires { group_of (expr_shape form.old) ≡ Pair }
-    ensures tree { OnOk result (expr_shape form.new ≡ (type_form pos op_pos (expr_shape form.old) (state_of checker.old)).form) }
-    ensures typing { IfOk result (λ t. typing_of t ≡ (type_form pos op_pos (expr_shape form.old) (state_of checker.old)).typing) }
-    ensures state { OnOk result (state_of checker.new ≡ (type_form pos op_pos (expr_shape form.old) (state_of checker.old)).state) }
-{
-    match form {
-        Expr::Index(a, b) => {
-            let typing = type_index(checker, op_pos, a, b)?;
-            Ok(typing)
-        }
-        Expr::Binary(op, a, b) => {
-            let typing = type_infix(checker, op_pos, Infix::Plain(*op), a, b)?;
-            Ok(typing)
-        }
-        Expr::And(a, b) => {
-            let typing = type_infix(checker, op_pos, Infix::And, a, b)?;
-            Ok(typing)
-        }
-        Expr::Or(a, b) => {
-            let typing = type_infix(checker, op_pos, Infix::Or, a, b)?;
-            Ok(typing)
-        }
-        Expr::Assign(op, a, b) => {
-            let typing = type_infix(checker, op_pos, Infix::Assign(*op), a, b)?;
-            Ok(typing)
-        }
-        Expr::Comma(a, b) => {
-            let typing = type_infix(checker, op_pos, Infix::Comma, a, b)?;
-            Ok(typing)
-        }
-        _ => unreachable!(),
-    }
-}
-
-// An element.
-#[cycle(typing)]
-fn type_index(
-    checker: &mut Checker,
-    op_pos: Pos,
-    a: &mut Node,
-    b: &mut Node,
-) -> Result<Typing, NoMemory>
-    ensures tree { OnOk result (suffix (node_shape a.new) (index (node_shape b.new)) ≡ (type_element op_pos (node_shape a.old) (node_shape b.old) (state_of checker.old)).form) }
-    ensures typing { IfOk result (λ t. typing_of t ≡ (type_element op_pos (node_shape a.old) (node_shape b.old) (state_of checker.old)).typing) }
-    ensures state { OnOk result (state_of checker.new ≡ (type_element op_pos (node_shape a.old) (node_shape b.old) (state_of checker.old)).state) }
-{
-    let both = type_operands(checker, a, b)?;
-    let typing = checker.typed_index(both.token, op_pos, both.left, both.right)?;
-    Ok(typing)
-}
-
-// An operator between its operands.
-#[cycle(typing)]
-fn type_infix(
-    checker: &mut Checker,
-    op_pos: Pos,
-    op: Infix,
-    a: &mut Node,
-    b: &mut Node,
-) -> Result<Typing, NoMemory>
-    ensures tree { OnOk result (two (infix_of op) (node_shape a.new) (node_shape b.new) ≡ (type_two op_pos (infix_of op) (node_shape a.old) (node_shape b.old) (state_of checker.old)).form) }
-    ensures typing { IfOk result (λ t. typing_of t ≡ (type_two op_pos (infix_of op) (node_shape a.old) (node_shape b.old) (state_of checker.old)).typing) }
-    ensures state { OnOk result (state_of checker.new ≡ (type_two op_pos (infix_of op) (node_shape a.old) (node_shape b.old) (state_of checker.old)).state) }
-{
-    let both = type_operands(checker, a, b)?;
-    let typing = typed_infix(checker, op_pos, op, both)?;
     Ok(typing)
 }
 

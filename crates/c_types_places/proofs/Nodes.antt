@@ -17,7 +17,7 @@ use Rattle.c_scopes.specs.Scoping.{find_here, find}
 use Rattle.c_tree.specs.State.{State, step, steps, demand, is_clean, field_type}
 use Rattle.c_tree.specs.Rulings.{rule, kind_at}
 use Rattle.c_tree.specs.Sorts.{pos_in, changeable}
-use Rattle.c_tree.specs.Operators.{Given, given_at, called, place_rule, holder, constant_rule, claim, hushed, heard, with_literal}
+use Rattle.c_tree.specs.Operators.{Given, given_at, called, place_rule, holder, constant_rule, claim, hushed, heard, with_literal, left_of, right_of, sided, entering}
 use Rattle.c_tree.specs.Typing.{type_node, type_form as typed_form, type_arguments, type_cases, type_type, type_lengths, type_specs, type_struct, type_lines, type_fields, type_enum, rows_types, type_value}
 use Rattle.c_tree.specs.Parts.{Length, length_rule, value_rule, passes, Spelled, unspelled, with_word, with_tagged, spelled_rule, star_tokens, left_out, length_of, judged_length, judged_constant, opened, begun_at, within, tag_tokens, field_state, is_free, with_field, arrays_of, pointed, declare, entity_of, after, enumeration, static_fits}
 use Rattle.c_types_places.proofs.Fine.{At, Fine, Past, none, one, ◌▸◌, past, same, here, placed, all_behind, demand_fine, rule_fine}
@@ -63,7 +63,7 @@ next_row (more_enumers x v more) a b c w e = record { middle = w.middle; first =
 
 mutual
   pub node_fine : {all ts : List Token} (a : NodeShape) (s : State) (rest : List Token) → Fine all s ts → Shaped a → Written (node_form a) ts rest → Fine all (type_node a s).state rest
-  node_fine {ts = ts} (node p o n f) s rest g h w = form_fine p o f s rest g h.1 (here g w.0 (form_long o f ts rest w.1)) w.1
+  node_fine {ts = ts} (node p o n f) s rest g h w = form_fine p o f (entering f s) rest g h.1 (here g w.0 (form_long o f ts rest w.1)) w.1
 
   form_fine : {all ts : List Token} (p o : Pos) (f : ExprShape) (s : State) (rest : List Token) → Fine all s ts → ShapedExpr f → At all s.at p → Written (expr_form o f) ts rest → Fine all (typed_form p o f s).state rest
   form_fine p o (leaf (number t)) s rest g h q w = past (demand_fine _ wrong_type s.at p s g q) (one w.1)
@@ -124,10 +124,11 @@ mutual
       let r = rule_fine (changeable t.sort) s.at (pos_in a) (step t.state) (past f (one w.second.1)) (node_place a w.middle g w.first) in
       rule_fine _ t.state.at o (rule (changeable t.sort) s.at (pos_in a) (step t.state)) r (placed f w.second)
   form_fine p o (two u a b) s rest g h q w =
-      let t = type_node a s in
-      let v = type_node b (step t.state) in
-      let f = node_fine a s w.middle g h.2 w.first in
-      let k = node_fine b (step t.state) rest (past f (one w.second.first.1)) h.4 w.second.second in
+      let t = type_node a (sided (left_of u) s) in
+      let r = sided (right_of u t.sort.kind) (step t.state) in
+      let v = type_node b r in
+      let f = node_fine a (sided (left_of u) s) w.middle g h.2 w.first in
+      let k = node_fine b r rest (past f (one w.second.first.1)) h.4 w.second.second in
       infix_fine t.state.at o s.at (pos_in a) u t.sort v.sort v.state k (placed f w.second.first) (node_place a w.middle g w.first)
   form_fine p o (choose a b c) s rest g h q w =
       let t = type_node a s in

@@ -4,15 +4,16 @@ use Rattle.c_base.specs.declared.place.Pos.{Pos}
 use Rattle.c_base.specs.declared.place.IntKind.TheVariants.{Int}
 use Rattle.c_syntax.specs.declared.tree.Named.{Named}
 use Rattle.c_syntax.specs.declared.tree.Star.{Star}
-use Rattle.c_syntax.specs.Shape.{TypeOf, int, test, number, char, str, name, unary, before, size_of, NodeShape, node, ExprShape, leaf, paren, call, prefix, size_of_type, cast, suffix, two, choose, probe, index, field, behind, simple, select, NodeShapes, no_nodes, more_nodes, MaybeNode, no_node, one_node, LengthShapes, no_lengths, more_lengths, TypeShape, type_name, SpecShapes, no_specs, more_specs, word, struct, enum, MaybeDecls, no_members, members, MaybeEnumers, no_rows, rows, EnumerShapes, no_enumers, more_enumers, decl, DeclShapes, no_decls, more_decls, declarator, DeclaratorShapes, no_declarators, more_declarators, MaybeInit, arrays, function}
+use Rattle.c_syntax.specs.Shape.{TypeOf, int, block, test, used, def, number, char, str, name, unary, before, size_of, NodeShape, node, ExprShape, leaf, paren, call, prefix, size_of_type, cast, suffix, two, choose, probe, index, field, behind, simple, select, NodeShapes, no_nodes, more_nodes, MaybeNode, no_node, one_node, LengthShapes, no_lengths, more_lengths, TypeShape, type_name, SpecShapes, no_specs, more_specs, word, struct, enum, MaybeDecls, no_members, members, MaybeEnumers, no_rows, rows, EnumerShapes, no_enumers, more_enumers, decl, DeclShapes, no_decls, more_decls, declarator, DeclaratorShapes, no_declarators, more_declarators, MaybeInit, arrays, function}
 use Rattle.c_constants.specs.Constants as constants
 use Rattle.c_tables.specs.Tables.{FieldShape}
 use Rattle.c_tables.specs.Rows.{text_of, name_pos}
+use Rattle.c_tree.specs.declared.meaning.Side.{Side}
 use Rattle.c_tree.specs.Complaints.{stray, wrong_type}
 use Rattle.c_tree.specs.State.{State, steps, step, complain, demand, is_clean, field_type}
 use Rattle.c_tree.specs.Rulings.{rule, kind_at}
 use Rattle.c_tree.specs.Sorts.{Formed, formed, TypedNode, TypedType, noted, pos_in}
-use Rattle.c_tree.specs.Operators.{Given, given_at, claim, called, typed_call, typed_paren, typed_unary, typed_step, heard, hushed, typed_size, typed_type_size, typed_cast, typed_index, typed_field, typed_infix, typed_choice, typed_probe, typed_select}
+use Rattle.c_tree.specs.Operators.{Given, given_at, claim, called, typed_call, typed_paren, typed_unary, typed_step, heard, hushed, typed_size, typed_type_size, typed_cast, typed_index, typed_field, typed_infix, typed_choice, typed_probe, typed_select, left_of, right_of, sided, kept_side, entering}
 use Rattle.c_tree.specs.Parts.{Length, length_of, left_out, judged_length, TypedNodes, one_more, TypedCases, one_case, judged_constant, TypedLengths, open_length, one_length, pointed, star_tokens, arrays_of, Spelled, unspelled, with_word, with_tagged, static_fits, spelled_rule, more_spec, TypedSpecs, TypedSpec, opened, begun_at, tag_tokens, closed, structure_kind, kind_if, within, outside, TypedDecls, TypedNames, is_free, with_field, field_state, TypedRows, Valued, given_value, entity_of, declare, after, enumeration}
 use Rattle.c_tree.specs.Typing.{opening, type_node, type_form, type_arguments, type_cases, type_type, type_lengths, type_specs, type_struct, type_lines, type_fields, type_enum, rows_types, type_value}
 use Rattle.c_tree.specs.Unnoted.{bare_node, bare_form, bare_nodes, bare_maybe, bare_lengths, bare_type, bare_specs, bare_members, bare_rows, bare_enumers, bare_decls, bare_name, bare_names, bare_maybe_init}
@@ -61,6 +62,23 @@ written_value v = record { node = written_maybe v.node; value = v.value; state =
 pub pos_same : (a : NodeShape) → pos_in (bare_node a) ≡ pos_in a
 pos_same (node p o n f) = refl
 
+-- where it stands, as far as a form looks through
+side_same : (f : ExprShape) (d : Side) → kept_side (bare_form f) d ≡ kept_side f d
+side_same (leaf l) d = refl
+side_same (paren a) d = refl
+side_same (call x args) d = refl
+side_same (prefix u a) d = refl
+side_same (size_of_type y) d = refl
+side_same (cast y a) d = refl
+side_same (suffix a u) d = refl
+side_same (two u a b) d = refl
+side_same (choose a b c) d = refl
+side_same (probe (simple block x) a) d = refl
+side_same (probe (simple test x) a) d = refl
+side_same (probe (simple used x) a) d = refl
+side_same (probe (simple def x) a) d = refl
+side_same (probe (select x cs) a) d = refl
+
 opening_same : (args : NodeShapes) → opening (bare_nodes args) ≡ opening args
 opening_same no_nodes = refl
 opening_same (more_nodes a rest) = refl
@@ -100,7 +118,9 @@ row_of x token rest r = row_end x r.node (rows_types (after r.value) (bare_enume
 
 mutual
   pub node_typed : (a : NodeShape) (s : State) → type_node (bare_node a) s ≡ written_typed (type_node a s)
-  node_typed (node p o n f) s = ap (noted p o s) (form_typed p o f s)
+  node_typed (node p o n f) s =
+      ap (λ d. noted p o s (type_form p o (bare_form f) (sided d s))) (side_same f s.side)
+      ∙ ap (noted p o s) (form_typed p o f (entering f s))
 
   form_typed : (p o : Pos) (f : ExprShape) (s : State) → type_form p o (bare_form f) s ≡ written_formed (type_form p o f s)
   form_typed p o (leaf (number t)) s = refl
@@ -133,17 +153,19 @@ mutual
       ap (λ q. let t = type_node (bare_node a) s in formed (suffix t.node (behind u)) (typed_step t.state.at o s.at q t.sort (step t.state))) (pos_same a)
       ∙ ap (λ t. formed (suffix t.node (behind u)) (typed_step t.state.at o s.at (pos_in a) t.sort (step t.state))) (node_typed a s)
   form_typed p o (two u a b) s =
-      let t = type_node a s in
-      ap (λ q. let x = type_node (bare_node a) s in let y = type_node (bare_node b) (step x.state) in formed (two u x.node y.node) (typed_infix x.state.at o s.at q u x.sort y.sort y.state)) (pos_same a)
-      ∙ (ap (λ x. let y = type_node (bare_node b) (step x.state) in formed (two u x.node y.node) (typed_infix x.state.at o s.at (pos_in a) u x.sort y.sort y.state)) (node_typed a s)
-      ∙ ap (λ y. formed (two u (written_node t.node) y.node) (typed_infix t.state.at o s.at (pos_in a) u t.sort y.sort y.state)) (node_typed b (step t.state)))
+      let l = sided (left_of u) s in
+      let t = type_node a l in
+      let r = sided (right_of u t.sort.kind) (step t.state) in
+      ap (λ q. let x = type_node (bare_node a) l in let y = type_node (bare_node b) (sided (right_of u x.sort.kind) (step x.state)) in formed (two u x.node y.node) (typed_infix x.state.at o s.at q u x.sort y.sort y.state)) (pos_same a)
+      ∙ (ap (λ x. let y = type_node (bare_node b) (sided (right_of u x.sort.kind) (step x.state)) in formed (two u x.node y.node) (typed_infix x.state.at o s.at (pos_in a) u x.sort y.sort y.state)) (node_typed a l)
+      ∙ ap (λ y. formed (two u (written_node t.node) y.node) (typed_infix t.state.at o s.at (pos_in a) u t.sort y.sort y.state)) (node_typed b r))
   form_typed p o (choose a b c) s =
       let t = type_node a s in
       let v = type_node b (step t.state) in
       ap (λ x. let y = type_node (bare_node b) (step x.state) in let z = type_node (bare_node c) (step y.state) in formed (choose x.node y.node z.node) (typed_choice x.state.at o x.sort y.sort z.sort z.state)) (node_typed a s)
       ∙ (ap (λ y. let z = type_node (bare_node c) (step y.state) in formed (choose (written_node t.node) y.node z.node) (typed_choice t.state.at o t.sort y.sort z.sort z.state)) (node_typed b (step t.state))
       ∙ ap (λ z. formed (choose (written_node t.node) (written_node v.node) z.node) (typed_choice t.state.at o t.sort v.sort z.sort z.state)) (node_typed c (step v.state)))
-  form_typed p o (probe (simple u x) a) s = ap (λ t. formed (probe (simple u x) t.node) (typed_probe s.at p u t.sort t.state)) (node_typed a (steps 4 (claim u x s.at p s)))
+  form_typed p o (probe (simple u x) a) s = ap (λ t. formed (probe (simple u x) t.node) (typed_probe s.at p u s.side t.sort t.state)) (node_typed a (steps 4 (claim u x s.at p s)))
   form_typed p o (probe (select x cs) a) s =
       let c = steps 3 (claim test x s.at p s) in
       let t = type_cases [] cs c in

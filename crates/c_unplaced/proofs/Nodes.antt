@@ -7,19 +7,20 @@ use Rattle.c_syntax.specs.declared.text.Text.{Text}
 use Rattle.c_syntax.specs.declared.tree.Named.{Named}
 use Rattle.c_syntax.specs.declared.tree.Star.{Star}
 use Rattle.c_syntax.specs.Start.{start}
-use Rattle.c_syntax.specs.Shape.{TypeOf, int, test, number, char, str, name, unary, before, size_of, NodeShape, node, ExprShape, leaf, paren, call, prefix, size_of_type, cast, suffix, two, choose, probe, index, field, behind, simple, select, NodeShapes, no_nodes, more_nodes, MaybeNode, no_node, one_node, LengthShapes, no_lengths, more_lengths, TypeShape, type_name, SpecShapes, no_specs, more_specs, word, struct, enum, MaybeDecls, no_members, members, MaybeEnumers, no_rows, rows, EnumerShapes, no_enumers, more_enumers, decl, DeclShapes, no_decls, more_decls, declarator, DeclaratorShape, DeclaratorShapes, no_declarators, more_declarators, DeclFormShape, MaybeInit, arrays, function}
+use Rattle.c_syntax.specs.Shape.{TypeOf, int, block, test, used, def, number, char, str, name, unary, before, size_of, NodeShape, node, ExprShape, leaf, paren, call, prefix, size_of_type, cast, suffix, two, choose, probe, index, field, behind, simple, select, NodeShapes, no_nodes, more_nodes, MaybeNode, no_node, one_node, LengthShapes, no_lengths, more_lengths, TypeShape, type_name, SpecShapes, no_specs, more_specs, word, struct, enum, MaybeDecls, no_members, members, MaybeEnumers, no_rows, rows, EnumerShapes, no_enumers, more_enumers, decl, DeclShapes, no_decls, more_decls, declarator, DeclaratorShape, DeclaratorShapes, no_declarators, more_declarators, DeclFormShape, MaybeInit, arrays, function}
 use Rattle.c_constants.specs.Constants as constants
 use Rattle.c_scopes.specs.Scoping.{find, find_here}
 use Rattle.c_tables.specs.Tables.{FieldShape}
 use Rattle.c_tables.specs.Rows.{row, text_of, name_pos}
 use Rattle.c_tree.specs.declared.meaning.Entity.{Entity}
+use Rattle.c_tree.specs.declared.meaning.Side.{Side}
 use Rattle.c_tree.specs.declared.meaning.Tag.{Tag}
 use Rattle.c_tree.specs.declared.meaning.Tag.TheVariants as tag
 use Rattle.c_tree.specs.Complaints.{declared_twice, not_constant, stray, unknown_name, wrong_type}
 use Rattle.c_tree.specs.State.{State, steps, step, complain, demand, is_clean, is_set, field_type}
 use Rattle.c_tree.specs.Rulings.{rule, kind_at, of_kind, whole}
 use Rattle.c_tree.specs.Sorts.{Formed, formed, TypedNode, TypedType, noted, note_of, cleared, pos_in}
-use Rattle.c_tree.specs.Operators.{Called, Given, given_at, claim, called, typed_call, typed_paren, typed_unary, typed_step, heard, hushed, typed_size, typed_type_size, typed_cast, typed_index, typed_field, typed_infix, typed_choice, typed_probe, typed_select, constant_rule}
+use Rattle.c_tree.specs.Operators.{Called, Given, given_at, claim, called, typed_call, typed_paren, typed_unary, typed_step, heard, hushed, typed_size, typed_type_size, typed_cast, typed_index, typed_field, typed_infix, typed_choice, typed_probe, typed_select, constant_rule, left_of, right_of, sided, kept_side, entering}
 use Rattle.c_tree.specs.Parts.{Length, length_of, left_out, length_rule, judged_length, TypedNodes, one_more, TypedCases, one_case, judged_constant, TypedLengths, open_length, one_length, pointed, star_tokens, arrays_of, Spelled, unspelled, with_word, with_tagged, static_fits, spelled_rule, more_spec, TypedSpecs, TypedSpec, Opened, opened, known_structure, listed_structure, begun_at, tag_tokens, closed, structure_kind, kind_if, within, outside, TypedDecls, TypedNames, is_free, with_field, field_state, TypedRows, Valued, value_rule, passes, only_int, entity_of, declared_at, declare, after, known_enumeration, listed_enumeration, enumeration}
 use Rattle.c_tree.specs.Typing.{opening, type_node, type_form, type_arguments, type_cases, type_type, type_lengths, type_specs, type_struct, type_lines, type_fields, type_enum, rows_types, type_value}
 use Rattle.c_placing.specs.Unplaced.{unplaced_named, unplaced_star, unplaced_node, unplaced_form, unplaced_nodes, unplaced_maybe, unplaced_lengths, unplaced_type, unplaced_specs, unplaced_spec, unplaced_members, unplaced_rows, unplaced_enumers, unplaced_decls, unplaced_name, unplaced_names, unplaced_maybe_init}
@@ -71,6 +72,23 @@ unplaced_opened o = record { number = o.number; state = unplaced_state o.state }
 
 pub pos_start : (a : NodeShape) → pos_in (unplaced_node a) ≡ start
 pos_start (node p o n f) = refl
+
+-- where it stands, as far as a form looks through
+side_same : (f : ExprShape) (d : Side) → kept_side (unplaced_form f) d ≡ kept_side f d
+side_same (leaf l) d = refl
+side_same (paren a) d = refl
+side_same (call x args) d = refl
+side_same (prefix u a) d = refl
+side_same (size_of_type y) d = refl
+side_same (cast y a) d = refl
+side_same (suffix a u) d = refl
+side_same (two u a b) d = refl
+side_same (choose a b c) d = refl
+side_same (probe (simple block x) a) d = refl
+side_same (probe (simple test x) a) d = refl
+side_same (probe (simple used x) a) d = refl
+side_same (probe (simple def x) a) d = refl
+side_same (probe (select x cs) a) d = refl
 
 opening_same : (args : NodeShapes) → opening (unplaced_nodes args) ≡ opening args
 opening_same no_nodes = refl
@@ -217,7 +235,9 @@ row_of x token rest r = row_end x r.node (rows_types (after r.value) (unplaced_e
 
 mutual
   pub node_typed : (a : NodeShape) (s : State) → type_node (unplaced_node a) (unplaced_state s) ≡ unplaced_typed (type_node a s)
-  node_typed (node p o n f) s = ap (noted start start (unplaced_state s)) (form_typed p o f s) ∙ noted_alike p o s (type_form p o f s)
+  node_typed (node p o n f) s =
+      ap (λ d. noted start start (unplaced_state s) (type_form start start (unplaced_form f) (sided d (unplaced_state s)))) (side_same f s.side)
+      ∙ (ap (noted start start (unplaced_state s)) (form_typed p o f (entering f s)) ∙ noted_alike p o s (type_form p o f (entering f s)))
 
   pub form_typed : (p o : Pos) (f : ExprShape) (s : State) → type_form start start (unplaced_form f) (unplaced_state s) ≡ unplaced_formed (type_form p o f s)
   form_typed p o (leaf (number t)) s = ap (formed (leaf (number t))) (numbered p t s)
@@ -273,11 +293,13 @@ mutual
       ∙ (ap (λ v. formed (suffix v.node (behind u)) (typed_step v.state.at start s.at start v.sort (step v.state))) (node_typed a s)
       ∙ ap (formed (suffix (unplaced_node t.node) (behind u))) (step_typed t.state.at o s.at (pos_in a) t.sort (step t.state)))
   form_typed p o (two u a b) s =
-      let t = type_node a s in
-      let v = type_node b (step t.state) in
-      ap (λ q. let x = type_node (unplaced_node a) (unplaced_state s) in let y = type_node (unplaced_node b) (step x.state) in formed (two u x.node y.node) (typed_infix x.state.at start s.at q u x.sort y.sort y.state)) (pos_start a)
-      ∙ (ap (λ x. let y = type_node (unplaced_node b) (step x.state) in formed (two u x.node y.node) (typed_infix x.state.at start s.at start u x.sort y.sort y.state)) (node_typed a s)
-      ∙ (ap (λ y. formed (two u (unplaced_node t.node) y.node) (typed_infix t.state.at start s.at start u t.sort y.sort y.state)) (node_typed b (step t.state))
+      let l = sided (left_of u) s in
+      let t = type_node a l in
+      let r = sided (right_of u t.sort.kind) (step t.state) in
+      let v = type_node b r in
+      ap (λ q. let x = type_node (unplaced_node a) (unplaced_state l) in let y = type_node (unplaced_node b) (sided (right_of u x.sort.kind) (step x.state)) in formed (two u x.node y.node) (typed_infix x.state.at start s.at q u x.sort y.sort y.state)) (pos_start a)
+      ∙ (ap (λ x. let y = type_node (unplaced_node b) (sided (right_of u x.sort.kind) (step x.state)) in formed (two u x.node y.node) (typed_infix x.state.at start s.at start u x.sort y.sort y.state)) (node_typed a l)
+      ∙ (ap (λ y. formed (two u (unplaced_node t.node) y.node) (typed_infix t.state.at start s.at start u t.sort y.sort y.state)) (node_typed b r)
       ∙ ap (formed (two u (unplaced_node t.node) (unplaced_node v.node))) (infix_typed t.state.at o s.at (pos_in a) u t.sort v.sort v.state)))
   form_typed p o (choose a b c) s =
       let t = type_node a s in
@@ -289,9 +311,9 @@ mutual
       ∙ ap (formed (choose (unplaced_node t.node) (unplaced_node v.node) (unplaced_node w.node))) (choice_typed t.state.at o t.sort v.sort w.sort w.state)))
   form_typed p o (probe (simple u x) a) s =
       let t = type_node a (steps 4 (claim u x s.at p s)) in
-      ap (λ c. let v = type_node (unplaced_node a) (steps 4 c) in formed (probe (simple u x) v.node) (typed_probe s.at start u v.sort v.state)) (number_taken u x s.at p s)
-      ∙ (ap (λ v. formed (probe (simple u x) v.node) (typed_probe s.at start u v.sort v.state)) (node_typed a (steps 4 (claim u x s.at p s)))
-      ∙ ap (formed (probe (simple u x) (unplaced_node t.node))) (probe_typed s.at p u t.sort t.state))
+      ap (λ c. let v = type_node (unplaced_node a) (steps 4 c) in formed (probe (simple u x) v.node) (typed_probe s.at start u s.side v.sort v.state)) (number_taken u x s.at p s)
+      ∙ (ap (λ v. formed (probe (simple u x) v.node) (typed_probe s.at start u s.side v.sort v.state)) (node_typed a (steps 4 (claim u x s.at p s)))
+      ∙ ap (formed (probe (simple u x) (unplaced_node t.node))) (probe_typed s.at p u s.side t.sort t.state))
   form_typed p o (probe (select x cs) a) s =
       let c = steps 3 (claim test x s.at p s) in
       let t = type_cases [] cs c in

@@ -16,6 +16,7 @@ use Rattle.c_tables.specs.Rows.{row}
 use Rattle.c_tables.specs.Tables.{FunctionShape, VariableShape}
 use Rattle.c_tree.specs.declared.meaning.Entity.{Entity}
 use Rattle.c_tree.specs.declared.meaning.Entity.TheVariants as entity
+use Rattle.c_tree.specs.declared.meaning.Side.{Side}
 use Rattle.c_tree.specs.Complaints.{stray, undefined, unknown_name, wrong_arg_count, wrong_type}
 use Rattle.c_tree.specs.State.{State, step, complaint, complain, demand, is_clean, Numbered, numbered_or, mention, function_number, pushed_function, counts}
 use Rattle.c_tree.specs.Rulings.{Ruled, allowed, unsettled, refused, by, rule, kind_at, of_kind, whole}
@@ -208,8 +209,8 @@ number_claimed u x token p None (Some m) s = complained stray token p s
 pub number_taken : (u : Probing) (x : Text) (token : ℕ) (p : Pos) (s : State) → claim u x token start (unplaced_state s) ≡ unplaced_state (claim u x token p s)
 number_taken u x token p s = number_claimed u x token p (probe_number_of x) (named x (seen_of u s.seen)) s
 
-pub probe_typed : (token : ℕ) (p : Pos) (u : Probing) (a : Sort) (s : State) → typed_probe token start u a (unplaced_state s) ≡ unplaced_outcome (typed_probe token p u a s)
-probe_typed token p u a s = rule_and_step _ _ token p s
+pub probe_typed : (token : ℕ) (p : Pos) (u : Probing) (d : Side) (a : Sort) (s : State) → typed_probe token start u d a (unplaced_state s) ≡ unplaced_outcome (typed_probe token p u d a s)
+probe_typed token p u d a s = rule_and_step _ _ token p s
 
 pub select_typed : (token : ℕ) (p : Pos) (clean : Bool) (vs : List (Option ℤ)) (a : Sort) (s : State) → typed_select token start clean vs a (unplaced_state s) ≡ unplaced_outcome (typed_select token p clean vs a s)
 select_typed token p clean vs a s = rule_and_step _ _ token p s

@@ -13,18 +13,19 @@ use Rattle.c_tables.specs.Tables.{FunctionShape, TablesShape}
 use Rattle.c_tables.specs.Rows.{row}
 use Rattle.c_placing.specs.Unplaced.{unplaced_node, unplaced_form, unplaced_nodes, unplaced_maybe, unplaced_stmt}
 use Rattle.c_walk.specs.declared.around.Taken.{Taken}
-use Rattle.c_walk.specs.declared.around.Taken.TheVariants.{Read, Written, Changed, Addressed}
+use Rattle.c_walk.specs.declared.around.Taken.TheVariants.{Read, Written, Changed, Copied, Addressed}
+use Rattle.c_walk.specs.Places.{holds_structure}
 use Rattle.c_meaning.specs.State.{State}
 use Rattle.c_meaning.specs.Results.{Got, then_do, turn, settled, needed}
 use Rattle.c_meaning.specs.Operators.{operated, stepped_by_one, element_pointer, of_one, target, pointed}
 use Rattle.c_meaning.specs.Firsts.{quiet}
-use Rattle.c_meaning.specs.Places.{field_place, logs, marks, loaded, fetched}
+use Rattle.c_meaning.specs.Places.{field_place, logs, marks, loaded, copied, fetched}
 use Rattle.c_meaning.specs.Constants.{select_constants, chosen_among, kind_noted, type_at}
 use Rattle.c_walk.specs.Tests.{choosing}
 use Rattle.c_meaning.specs.Knot.{Loop, Knot}
 use Rattle.c_meaning.specs.Builtins.{called, called_row, params_of}
-use Rattle.c_meaning.specs.Expressions.{gives, operand, cast_value, tested, last_test, written, step_value, log_block, log_test, meaning, form_meaning, arguments}
-use Rattle.c_unplaced_runs.proofs.Same.{type_same, operand_same, choosing_same, uses_same, defs_same, select_same}
+use Rattle.c_meaning.specs.Expressions.{gives, operand, cast_value, tested, last_test, written, assigned, step_value, log_block, log_test, meaning, form_meaning, arguments}
+use Rattle.c_unplaced_runs.proofs.Same.{type_same, structure_same, operand_same, choosing_same, uses_same, defs_same, select_same}
 use Rattle.c_unplaced_runs.proofs.Results.{both, turned, chosen, logged_all}
 
 -- a loop whose parts stand behind so many variables
@@ -86,6 +87,12 @@ module _ (t : TablesShape) (k l : Knot) (follows : Follows k l) where
   is_loaded : (a : NodeShape) (n : ℕ) (q : Pointer) (s : State) → loaded (marks used (unplaced_node a)) (quiet n) q s ≡ loaded (marks used a) (quiet n) q s
   is_loaded a n q s = ap (λ xs. loaded xs (quiet n) q s) (uses_same a)
 
+  -- a value that is written, or a structure that is copied
+  is_assigned : (z : Bool) (a b : NodeShape) → AsValue b → AsPlace b → (n : ℕ) (q : Pointer) (s : State)
+      → assigned z (type_at (unplaced_node a)) (marks def (unplaced_node a)) (marks used (unplaced_node b)) (meaning t k (unplaced_node b)) (quiet n) (quiet n) q s ≡ assigned z (type_at a) (marks def a) (marks used b) (meaning t l b) (quiet n) (quiet n) q s
+  is_assigned true a b go place n q s = both _ _ _ _ (place Copied n s) (λ r s. ap₂ (λ ds us. copied ds us (quiet n) (quiet n) q r s) (defs_same a) (uses_same b))
+  is_assigned false a b go place n q s = needed_both _ _ _ _ (go n s) (λ v s. is_written a n q v s)
+
   stepped : (b : Bool) (u : Step) (a : NodeShape) → AsPlace a → (n : ℕ) (s : State) → step_value b u (unplaced_node a) (meaning t k (unplaced_node a)) (quiet n) s ≡ step_value b u a (meaning t l a) (quiet n) s
   stepped b u a go n s =
       both _ _ _ _ (go Changed n s) (λ q s.
@@ -131,7 +138,8 @@ module _ (t : TablesShape) (k l : Knot) (follows : Follows k l) where
     form_alike p o n (two or a b) i s = turned s _ _ (λ s. both _ _ _ _ (is_tested a (value_alike a) i s) (λ x s. chosen x _ _ _ _ refl (last_tested b (value_alike b) i s)))
     form_alike p o n (two (assign None) a b) i s = turned s _ _ (λ s.
         both _ _ _ _ (place_alike a Written i s) (λ q s.
-        needed_both _ _ _ _ (value_alike b i s) (λ v s. is_written a i q v s)))
+        ap (λ z. assigned z (type_at (unplaced_node a)) (marks def (unplaced_node a)) (marks used (unplaced_node b)) (meaning t k (unplaced_node b)) (quiet i) (quiet i) q s) (structure_same a)
+        ∙ is_assigned (holds_structure a) a b (value_alike b) (place_alike b) i q s))
     form_alike p o n (two (assign (Some u)) a b) i s = turned s _ _ (λ s.
         both _ _ _ _ (place_alike a Changed i s) (λ q s.
         both _ _ _ _ (is_loaded a i q s) (λ x s.

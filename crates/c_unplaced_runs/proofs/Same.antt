@@ -10,7 +10,7 @@ use Rattle.c_store.specs.declared.value.Value.TheVariants.{At}
 use Rattle.c_tables.specs.Tables.{TablesShape}
 use Rattle.c_tables.specs.Rows.{text_of}
 use Rattle.c_placing.specs.Unplaced.{unplaced_mark, unplaced_named, unplaced_node, unplaced_form, unplaced_nodes, unplaced_decl, unplaced_decls, unplaced_name, unplaced_names, unplaced_behind, unplaced_params, unplaced_init, unplaced_inits, unplaced_label, unplaced_stmt, unplaced_body, unplaced_compound, unplaced_items, unplaced_external}
-use Rattle.c_walk.specs.Places.{has_array}
+use Rattle.c_walk.specs.Places.{has_array, holds_structure}
 use Rattle.c_walk.specs.Stating.{splits, case_count, has_default, is_labelled}
 use Rattle.c_walk.specs.Tests.{choosing, noted_constant, cast_to, joined, case_value}
 use Rattle.c_meaning.specs.State.{Bound}
@@ -29,6 +29,9 @@ three k {a} {b} {c} {d} {e} {f} p q r = ap (λ x. k x c e) p ∙ ap₂ (k b) q r
 
 pub type_same : (a : NodeShape) → type_at (unplaced_node a) ≡ type_at a
 type_same (node p o n f) = refl
+
+pub structure_same : (a : NodeShape) → holds_structure (unplaced_node a) ≡ holds_structure a
+structure_same (node p o n f) = refl
 
 pub operand_same : (a : NodeShape) → operand (unplaced_node a) ≡ operand a
 operand_same (node p o n f) = refl

@@ -11,7 +11,7 @@ use Rattle.c_walk.specs.declared.around.Taken.{Taken}
 use Rattle.c_walk.specs.declared.around.Taken.TheVariants.{Read, Changed}
 use Rattle.c_walk.specs.Sound.{IsOwner, IsSound, AreSound}
 use Rattle.c_walk.specs.Tests.{choosing, case_values}
-use Rattle.c_walk.specs.Walked.{Walked, operand_taken, left_taken, with_block, with_block_if, with_decision, with_test, inside, inside_test, with_site, pos_of}
+use Rattle.c_walk.specs.Walked.{Walked, operand_taken, left_taken, right_taken, with_block, with_block_if, with_decision, with_test, inside, inside_test, with_site, pos_of}
 use Rattle.c_walk.specs.Walking.{walk_node, walk_form, walk_test, walk_arm, walk_nodes, walk_maybe, walk_loop_test, walk_maybe_test, walk_step}
 use Rattle.c_walk.specs.Stating.{whole, with_variable, with_whole_def, walk_init, walk_maybe_init, walk_declarator, walk_declarators, walk_decl, walk_decls, pos_of_stmt, splits, is_labelled, walk_choice, walk_stmt, walk_body, walk_part, walk_compound, walk_items}
 use Rattle.c_walk.specs.Units.{define_declarator, define_declarators, define_decl, define_decls, define_parameters, function_of, in_function, walk_function, walk_external, walk_externals, no_items as nothing, items_of}
@@ -47,7 +47,7 @@ mutual
       let t = walk_test c a s in
       let u = with_block (pos_of b) t in
       onward c s t (walk_test c b u) o (test_goes c a s h o) (λ k w. onward c t u (walk_test c b u) w (goes_block (pos_of b) t k) (test_goes c b u))
-  form_goes c r (two (assign u) a b) s h o = let t = walk_node c (left_taken u) a s in onward c s t (walk_node c Read b t) o (node_goes c (left_taken u) a s h o) (node_goes c Read b t)
+  form_goes c r (two (assign u) a b) s h o = let t = walk_node c (left_taken u) a s in onward c s t (walk_node c (right_taken u a) b t) o (node_goes c (left_taken u) a s h o) (node_goes c (right_taken u a) b t)
   form_goes c r (two (plain u) a b) s h o = let t = walk_node c Read a s in onward c s t (walk_node c Read b t) o (node_goes c Read a s h o) (node_goes c Read b t)
   form_goes c r (two comma a b) s h o = let t = walk_node c Read a s in onward c s t (walk_node c Read b t) o (node_goes c Read a s h o) (node_goes c Read b t)
   form_goes c r (choose a b d) s h o =

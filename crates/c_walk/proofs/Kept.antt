@@ -1,15 +1,16 @@
 -- Items stay sound where one more comes.
-use Rattle.std.proofs.Common.{◌≡◌, ℕ, suc, ◌+◌, ◌≤◌, ◌++◌, List, [], ◌∷◌, Bool, true, false, Option, Some, None, if◌then◌else◌, refl, ap, ◌∙◌, arith}
+use Rattle.std.proofs.Common.{◌≡◌, ℕ, suc, ◌+◌, ◌≤◌, ◌++◌, ◌||◌, List, [], ◌∷◌, Bool, true, false, Option, Some, None, if◌then◌else◌, refl, ap, ◌∙◌, arith}
 use Rattle.std.specs.List.{AllByRecursion}
 use Rattle.c_base.specs.declared.place.Pos.{Pos}
 use Rattle.c_syntax.specs.Shape.{NoteShape, typed, name, dot, arrow, ExprShape, leaf, paren, suffix, index, field}
 use Rattle.c_walk.specs.Items.{Direct, Outcomes, Item, block, decision, def, used}
-use Rattle.c_walk.specs.Places.{is_place, has_scalar, has_array, named, with_part, direct, direct_form}
+use Rattle.c_walk.specs.Places.{is_place, has_scalar, has_structure, has_array, named, with_part, direct, direct_form}
 use Rattle.c_walk.specs.declared.around.Around.{Around}
 use Rattle.c_walk.specs.declared.around.Taken.{Taken}
-use Rattle.c_walk.specs.Sound.{decision_count, IsOwner, HasScalar, IsSound}
+use Rattle.c_walk.specs.declared.around.Taken.TheVariants.{Read, Written, Changed, Copied, Addressed}
+use Rattle.c_walk.specs.Sound.{decision_count, IsOwner, HasValue, IsSound}
 use Rattle.c_walk.specs.Tests.{is_logical_form, outcomes_of_form}
-use Rattle.c_walk.specs.Walked.{Walked, with_block, with_block_if, with_decision, inside, inside_test, with_test, with_def, with_use, with_sites, with_site, is_read, is_written}
+use Rattle.c_walk.specs.Walked.{Walked, with_block, with_block_if, with_decision, inside, inside_test, with_test, with_def, with_use, with_sites, with_site, is_used, is_written}
 
 -- the items so far are sound among so many decisions
 pub record Sound (s : Walked) : Type 0 where
@@ -103,7 +104,7 @@ goes_def true c p d s h = record {
   more = omega arith;
 }
 
-pub goes_use : (b : Bool) (c : Around) (p : Pos) (d : Option Direct) (s : Walked) → Sound s → IsOwner s.decisions c.owner → (b ≡ true → HasScalar d) → Goes s (with_use b c p d s)
+pub goes_use : (b : Bool) (c : Around) (p : Pos) (d : Option Direct) (s : Walked) → Sound s → IsOwner s.decisions c.owner → (b ≡ true → HasValue d) → Goes s (with_use b c p d s)
 goes_use false c p d s h o k = goes_nowhere s h
 goes_use true c p d s h o k = record {
   sound = record { count = last_use s.items p c.function d c.owner ∙ h.count; all = all_last (IsSound s.decisions) s.items (used p c.function d c.owner) h.all (o, k refl) };
@@ -112,40 +113,50 @@ goes_use true c p d s h o k = record {
 
 -- ---- the sites of an expression
 
-part_scalar : (x : List ℕ) (n : NoteShape) (d : Option Direct) → has_scalar n ≡ true → HasScalar (with_part x n d)
-part_scalar x (typed t k) None h = tt
-part_scalar x (typed t k) (Some d) h = h
-part_scalar x n d h = tt
+part_value : (x : List ℕ) (n : NoteShape) (d : Option Direct) → (has_scalar n || has_structure n) ≡ true → HasValue (with_part x n d)
+part_value x (typed t k) None h = tt
+part_value x (typed t k) (Some d) h = h
+part_value x n d h = tt
 
-named_scalar : (x : List ℕ) (n : NoteShape) → has_scalar n ≡ true → HasScalar (named x n)
-named_scalar x (typed t (Some k)) h = h
-named_scalar x (typed t None) h = tt
-named_scalar x n h = tt
+named_value : (x : List ℕ) (n : NoteShape) → (has_scalar n || has_structure n) ≡ true → HasValue (named x n)
+named_value x (typed t (Some k)) h = h
+named_value x (typed t None) h = tt
+named_value x n h = tt
 
-direct_scalar : (n : NoteShape) (f : ExprShape) → is_place f ≡ true → has_scalar n ≡ true → HasScalar (direct_form n f)
-direct_scalar n (leaf (name x)) p h = named_scalar x n h
-direct_scalar n (paren a) p h = cc
-direct_scalar n (suffix a (field dot x q)) p h = part_scalar _ n (direct a) h
-direct_scalar n (suffix a (field arrow x q)) p h = tt
-direct_scalar n (suffix a (index b)) p h = part_scalar _ n (if has_array a then direct a else if has_array b then direct b else None) h
-direct_scalar n _ p h = tt
+direct_value : (n : NoteShape) (f : ExprShape) → is_place f ≡ true → (has_scalar n || has_structure n) ≡ true → HasValue (direct_form n f)
+direct_value n (leaf (name x)) p h = named_value x n h
+direct_value n (paren a) p h = cc
+direct_value n (suffix a (field dot x q)) p h = part_value _ n (direct a) h
+direct_value n (suffix a (field arrow x q)) p h = tt
+direct_value n (suffix a (index b)) p h = part_value _ n (if has_array a then direct a else if has_array b then direct b else None) h
+direct_value n _ p h = tt
 
-scalar_if : (b : Bool) (n : NoteShape) → (if b then has_scalar n else false) ≡ true → has_scalar n ≡ true
-scalar_if true n h = h
-scalar_if false n h = cc
+or_structure : (a b : Bool) → a ≡ true → (a || b) ≡ true
+or_structure true b h = refl
+or_structure false b h = cc
 
-goes_sites : (c : Around) (r : Taken) (p : Pos) (n : NoteShape) (f : ExprShape) (s : Walked) → is_place f ≡ true → Sound s → IsOwner s.decisions c.owner → Goes s (with_sites c r p (direct_form n f) (has_scalar n) s)
+or_scalar : (a b : Bool) → b ≡ true → (a || b) ≡ true
+or_scalar true b h = refl
+or_scalar false b h = h
+
+used_value : (r : Taken) (n : NoteShape) → is_used r n ≡ true → (has_scalar n || has_structure n) ≡ true
+used_value Read n h = or_structure (has_scalar n) (has_structure n) h
+used_value Changed n h = or_structure (has_scalar n) (has_structure n) h
+used_value Copied n h = or_scalar (has_scalar n) (has_structure n) h
+used_value Written n h = cc
+used_value Addressed n h = cc
+
+goes_sites : (c : Around) (r : Taken) (p : Pos) (n : NoteShape) (f : ExprShape) (s : Walked) → is_place f ≡ true → Sound s → IsOwner s.decisions c.owner → Goes s (with_sites c r p (direct_form n f) (is_used r n) s)
 goes_sites c r p n f s e h o =
     let d = direct_form n f in
     let first = goes_def (is_written r) c p d s h in
     let t = with_def (is_written r) c p d s in
-    let scalar = if is_read r then has_scalar n else false in
-    goes_on s t (with_use scalar c p d t) first (goes_use scalar c p d t first.sound (owner_on s.decisions t.decisions c.owner first.more o) (λ b. direct_scalar n f e (scalar_if (is_read r) n b)))
+    goes_on s t (with_use (is_used r n) c p d t) first (goes_use (is_used r n) c p d t first.sound (owner_on s.decisions t.decisions c.owner first.more o) (λ b. direct_value n f e (used_value r n b)))
 
 pub goes_site : (c : Around) (r : Taken) (p : Pos) (n : NoteShape) (f : ExprShape) (s : Walked) → Sound s → IsOwner s.decisions c.owner → Goes s (with_site c r p n f s)
 goes_site c r p n f s h o = by (is_place f) refl
   where
-    by : (b : Bool) → is_place f ≡ b → Goes s (if b then with_sites c r p (direct_form n f) (has_scalar n) s else s)
+    by : (b : Bool) → is_place f ≡ b → Goes s (if b then with_sites c r p (direct_form n f) (is_used r n) s else s)
     by true e = goes_sites c r p n f s e h o
     by false e = goes_nowhere s h
 

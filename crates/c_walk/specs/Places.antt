@@ -3,7 +3,7 @@ use Rattle.std.specs.Prelude.{◌++◌, [], ◌∷◌, Bool, true, false, Option
 use Rattle.c_syntax.specs.declared.text.Text.{Text}
 use Rattle.c_syntax.specs.declared.tree.UnaryOp.TheVariants as front
 use Rattle.c_syntax.specs.Shape.{NoteShape, typed, name, unary, dot, NodeShape, node, ExprShape, leaf, paren, prefix, suffix, index, field}
-use Rattle.c_type_rules.specs.Kinds.{is_scalar}
+use Rattle.c_type_rules.specs.Kinds.{is_scalar, is_structure}
 use Rattle.c_constants.specs.Constants.{is_array}
 use Rattle.c_walk.specs.Items.{Direct}
 
@@ -19,6 +19,14 @@ is_place _ = false
 abbrev pub has_scalar : NoteShape → Bool
 has_scalar (typed t n) = is_scalar t
 has_scalar _ = false
+
+abbrev pub has_structure : NoteShape → Bool
+has_structure (typed t n) = is_structure t
+has_structure _ = false
+
+-- a structure, which `=` copies
+abbrev pub holds_structure : NodeShape → Bool
+holds_structure (node p o n f) = has_structure n
 
 abbrev pub has_array : NodeShape → Bool
 has_array (node p o (typed t n) f) = is_array t

@@ -1,7 +1,7 @@
--- What holds of the items of each program: an owner is one of its decisions, and a direct use is one of an integer or a pointer.
-use Rattle.std.specs.Prelude.{◌≡◌, ℕ, suc, ◌≤◌, List, [], ◌∷◌, true, Option, Some, None}
+-- What holds of the items of each program: an owner is one of its decisions, and a direct use is one of an integer, a pointer or a structure.
+use Rattle.std.specs.Prelude.{◌≡◌, ℕ, suc, ◌≤◌, List, [], ◌∷◌, true, ◌||◌, Option, Some, None}
 use Rattle.std.specs.List.{AllByRecursion}
-use Rattle.c_type_rules.specs.Kinds.{is_scalar}
+use Rattle.c_type_rules.specs.Kinds.{is_scalar, is_structure}
 use Rattle.c_walk.specs.Items.{Direct, Item, decision, used}
 
 abbrev pub decision_count : List Item → ℕ
@@ -14,13 +14,13 @@ abbrev pub IsOwner : ℕ → Option ℕ → Type 0
 IsOwner n None = Unit
 IsOwner n (Some k) = (1 ≤ k) × (k ≤ n)
 
-abbrev pub HasScalar : Option Direct → Type 0
-HasScalar None = Unit
-HasScalar (Some d) = is_scalar d.kind ≡ true
+abbrev pub HasValue : Option Direct → Type 0
+HasValue None = Unit
+HasValue (Some d) = (is_scalar d.kind || is_structure d.kind) ≡ true
 
 -- among items with that many decisions
 abbrev pub IsSound : ℕ → Item → Type 0
-IsSound n (used p f d o) = IsOwner n o × HasScalar d
+IsSound n (used p f d o) = IsOwner n o × HasValue d
 IsSound n i = Unit
 
 abbrev pub AreSound : List Item → Type 0

@@ -6,10 +6,10 @@ use Rattle.c_syntax.specs.declared.tree.UnaryOp.TheVariants as front
 use Rattle.c_syntax.specs.declared.tree.BinaryOp.{BinaryOp}
 use Rattle.c_syntax.specs.Shape.{NoteShape, NodeShape, node, ExprShape}
 use Rattle.c_walk.specs.Items.{Direct, Outcomes, Item, block, decision, def, used}
-use Rattle.c_walk.specs.Places.{is_place, has_scalar, direct_form}
+use Rattle.c_walk.specs.Places.{is_place, has_scalar, has_structure, holds_structure, direct_form}
 use Rattle.c_walk.specs.declared.around.Around.{Around}
 use Rattle.c_walk.specs.declared.around.Taken.{Taken}
-use Rattle.c_walk.specs.declared.around.Taken.TheVariants.{Read, Written, Changed, Addressed}
+use Rattle.c_walk.specs.declared.around.Taken.TheVariants.{Read, Written, Changed, Copied, Addressed}
 use Rattle.c_walk.specs.Tests.{is_logical_form, outcomes_of_form}
 
 -- the items so far, how many decisions are among them, and how many variables were declared so far
@@ -31,6 +31,11 @@ is_written Written = true
 is_written Changed = true
 is_written _ = false
 
+-- of a place with that note the value is used: a scalar that is read, or a structure that is copied
+abbrev pub is_used : Taken → NoteShape → Bool
+is_used Copied n = has_structure n
+is_used r n = if is_read r then has_scalar n else false
+
 -- the operand of `&` has its address taken
 abbrev pub operand_taken : UnaryOp → Taken
 operand_taken front.AddressOf = Addressed
@@ -40,6 +45,11 @@ operand_taken _ = Read
 abbrev pub left_taken : Option BinaryOp → Taken
 left_taken None = Written
 left_taken (Some u) = Changed
+
+-- to the right of `=` a structure is copied, where one stands to the left
+abbrev pub right_taken : Option BinaryOp → NodeShape → Taken
+right_taken None a = if holds_structure a then Copied else Read
+right_taken (Some u) a = Read
 
 -- ---- blocks
 
@@ -80,14 +90,14 @@ abbrev pub with_def : Bool → Around → Pos → Option Direct → Walked → W
 with_def false c p d s = s
 with_def true c p d s = with_item (def p c.function d) s
 
--- a scalar place that is read is a use
+-- a scalar place that is read is a use, and so is a structure's that is copied
 abbrev pub with_use : Bool → Around → Pos → Option Direct → Walked → Walked
 with_use false c p d s = s
 with_use true c p d s = with_item (used p c.function d c.owner) s
 
 abbrev pub with_sites : Around → Taken → Pos → Option Direct → Bool → Walked → Walked
-with_sites c r p d scalar s = with_use (if is_read r then scalar else false) c p d (with_def (is_written r) c p d s)
+with_sites c r p d value s = with_use value c p d (with_def (is_written r) c p d s)
 
 -- the sites of an expression by itself
 abbrev pub with_site : Around → Taken → Pos → NoteShape → ExprShape → Walked → Walked
-with_site c r p n f s = if is_place f then with_sites c r p (direct_form n f) (has_scalar n) s else s
+with_site c r p n f s = if is_place f then with_sites c r p (direct_form n f) (is_used r n) s else s

@@ -3,7 +3,7 @@ use Rattle.c_syntax.specs.Shape.{unary, before, size_of, plain, and, or, assign,
 use Rattle.c_walk.specs.declared.around.Around.{Around}
 use Rattle.c_walk.specs.declared.around.Taken.{Taken}
 use Rattle.c_walk.specs.declared.around.Taken.TheVariants.{Read, Changed}
-use Rattle.c_walk.specs.Walked.{Walked, operand_taken, left_taken, with_block, pos_of, inside_test, with_test, with_site}
+use Rattle.c_walk.specs.Walked.{Walked, operand_taken, left_taken, right_taken, with_block, pos_of, inside_test, with_test, with_site}
 
 abbrev mutual
   pub walk_node : Around → Taken → NodeShape → Walked → Walked
@@ -25,7 +25,7 @@ abbrev mutual
   -- both operands of `&&` and `||` are tests, and the right one is a block
   walk_form c r (two and a b) s = walk_test c b (with_block (pos_of b) (walk_test c a s))
   walk_form c r (two or a b) s = walk_test c b (with_block (pos_of b) (walk_test c a s))
-  walk_form c r (two (assign u) a b) s = walk_node c Read b (walk_node c (left_taken u) a s)
+  walk_form c r (two (assign u) a b) s = walk_node c (right_taken u a) b (walk_node c (left_taken u) a s)
   walk_form c r (two (plain u) a b) s = walk_node c Read b (walk_node c Read a s)
   walk_form c r (two comma a b) s = walk_node c Read b (walk_node c Read a s)
   -- the first operand of `?:` is a test, the others are blocks

@@ -7,11 +7,13 @@ pub struct Around {
 }
 
 /// What is done with the value of a place: it is read; it is written, to the left of `=` (C89, 3.3.16.1); it is read and
-/// written, to the left of another assignment and at `++` and `--`; or its address is taken.
+/// written, to the left of another assignment and at `++` and `--`; a structure's cells are copied, to the right of `=`; or
+/// its address is taken.
 #[derive(Clone, Copy, Debug, PartialEq, Eq)]
 pub enum Taken {
     Read,
     Written,
     Changed,
+    Copied,
     Addressed,
 }

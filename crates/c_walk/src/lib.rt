@@ -6,6 +6,7 @@ pub mod items;
 pub mod outcomes;
 pub mod places;
 mod stating;
+pub mod taken;
 pub mod tests;
 pub mod units;
 mod walker;

@@ -3,7 +3,7 @@
 ghost use Rattle.std.specs.Prelude.{◌≡◌, IfOk};
 ghost use Rattle.c_syntax.specs.View.{node_shape, note_shape, expr_shape};
 ghost use Rattle.c_walk.specs.ItemView.{place_shape};
-ghost use Rattle.c_walk.specs.Places.{is_place, has_scalar, has_array, named, with_part, field_text, direct};
+ghost use Rattle.c_walk.specs.Places.{is_place, has_scalar, has_structure, has_array, named, with_part, field_text, direct};
 
 use crate::items::Direct;
 use c_base::place::NoMemory;
@@ -32,6 +32,13 @@ pub fn has_scalar(note: &Note) -> bool
         Note::Typed(kind, _) => is_scalar(kind),
         _ => false,
     }
+}
+
+/// Whether it is noted as a structure.
+pub fn has_structure(note: &Note) -> bool
+    ensures { result ≡ has_structure (note_shape note.now) }
+{
+    matches!(note, Note::Typed(CType::Struct(_), _))
 }
 
 fn has_array(node: &Node) -> bool

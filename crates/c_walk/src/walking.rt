@@ -2,17 +2,18 @@
 
 ghost use Rattle.std.specs.Prelude.{◌≡◌, false, if◌then◌else◌, OnOk, IfOk};
 ghost use Rattle.c_syntax.specs.View.{node_shape, note_shape, expr_shape, node_list, maybe_node};
-ghost use Rattle.c_walk.specs.Walked.{with_site, with_sites, with_use, operand_taken, left_taken, is_read, is_written, inside, inside_test, with_test};
+ghost use Rattle.c_walk.specs.Walked.{with_site, with_sites, with_use, operand_taken, left_taken, right_taken, is_used, inside, inside_test, with_test};
 ghost use Rattle.c_walk.specs.Walking.{walk_node, walk_form, walk_test, walk_arm, walk_nodes, walk_maybe, walk_loop_test, walk_maybe_test, walk_step};
 ghost use Rattle.c_walk.specs.WalkerView.{walked};
-ghost use Rattle.c_walk.specs.Places.{direct, has_scalar};
+ghost use Rattle.c_walk.specs.Places.{direct};
 
 use crate::around::{Around, Taken};
-use crate::places::{direct, has_scalar, is_place};
+use crate::places::{direct, is_place};
+use crate::taken::{is_used, is_written, left_taken, operand_taken, right_taken};
 use crate::tests::{is_logical, outcomes};
 use crate::walker::Walker;
 use c_base::place::NoMemory;
-use c_syntax::tree::{BinaryOp, Expr, Node, UnaryOp};
+use c_syntax::tree::{Expr, Node};
 
 /// Adds the items of an expression, of whose value that is done.
 #[cycle(expression)]
@@ -47,7 +48,7 @@ fn walk_form(out: &mut Walker, around: Around, taken: Taken, form: &Expr) -> Res
         }
         Expr::Assign(op, a, b) => {
             walk_node(out, around, left_taken(*op), a)?;
-            walk_node(out, around, Taken::Read, b)
+            walk_node(out, around, right_taken(*op, a), b)
         }
         Expr::And(a, b) | Expr::Or(a, b) => {
             walk_test(out, around, a)?;
@@ -110,7 +111,7 @@ fn put_site(out: &mut Walker, around: Around, taken: Taken, node: &Node) -> Resu
 }
 
 fn put_sites(out: &mut Walker, around: Around, taken: Taken, node: &Node) -> Result<(), NoMemory>
-    ensures { OnOk result (walked out.new ≡ with_sites around taken node.now.pos (direct (node_shape node.now)) (has_scalar (note_shape node.now.note)) (walked out.old)) }
+    ensures { OnOk result (walked out.new ≡ with_sites around taken node.now.pos (direct (node_shape node.now)) (is_used taken (note_shape node.now.note)) (walked out.old)) }
 {
     if is_written(taken) {
         let place = direct(out.alloc(), node)?;
@@ -120,46 +121,14 @@ fn put_sites(out: &mut Walker, around: Around, taken: Taken, node: &Node) -> Res
 }
 
 fn put_use(out: &mut Walker, around: Around, taken: Taken, node: &Node) -> Result<(), NoMemory>
-    ensures { OnOk result (walked out.new ≡ with_use (if is_read taken then has_scalar (note_shape node.now.note) else false) around node.now.pos (direct (node_shape node.now)) (walked out.old)) }
+    ensures { OnOk result (walked out.new ≡ with_use (is_used taken (note_shape node.now.note)) around node.now.pos (direct (node_shape node.now)) (walked out.old)) }
 {
-    if is_read(taken) && has_scalar(&node.note) {
+    if is_used(taken, node) {
         let place = direct(out.alloc(), node)?;
         out.used(around, node.pos, place)
     } else {
         Ok(())
     }
-}
-
-// ---- what is done with an operand's value
-
-fn operand_taken(op: UnaryOp) -> Taken
-    ensures { result ≡ operand_taken op }
-{
-    match op {
-        UnaryOp::AddressOf => Taken::Addressed,
-        _ => Taken::Read,
-    }
-}
-
-fn left_taken(op: Option<BinaryOp>) -> Taken
-    ensures { result ≡ left_taken op }
-{
-    match op {
-        None => Taken::Written,
-        Some(_) => Taken::Changed,
-    }
-}
-
-fn is_read(taken: Taken) -> bool
-    ensures { result ≡ is_read taken }
-{
-    matches!(taken, Taken::Read | Taken::Changed)
-}
-
-fn is_written(taken: Taken) -> bool
-    ensures { result ≡ is_written taken }
-{
-    matches!(taken, Taken::Written | Taken::Changed)
 }
 
 // ---- tests

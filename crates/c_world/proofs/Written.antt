@@ -1,4 +1,4 @@
--- A cell is written, and what lived lives on.
+-- A cell is written, or an element's cells are copied, and what lived lives on.
 use Rattle.std.proofs.Common.{◌≡◌, ℕ, suc, List, [], ◌∷◌, Option, Some, None, Result, Ok, Err, refl, sym, ap, ◌∙◌, subst, eq-eqb, nat_eq, if◌then◌else◌, Bool, true, false}
 use Rattle.std.specs.Prelude.{IsSome, length}
 use Rattle.std.proofs.lemmas.Bool.{eqb-true, false≢true}
@@ -7,6 +7,7 @@ use Rattle.c_store.specs.declared.value.Pointer.{Pointer}
 use Rattle.c_store.specs.declared.value.Fault.{Fault}
 use Rattle.c_store.specs.declared.value.Fault.TheVariants.{WriteLiteral, OutOfBounds}
 use Rattle.c_store.specs.Cells.{Cells, Slot, cell_of, is_inside, find, replace, with_value, element_in, element_of, write_in, write_of, IsWritten, IsLive}
+use Rattle.c_store.specs.Copies.{cells_at, with_part, copied_in, copy_of}
 use Rattle.std.proofs.Common.{OnErr}
 use Rattle.c_world.specs.Lives.{Living}
 use Rattle.c_world.proofs.Made.{living_on}
@@ -72,27 +73,43 @@ element_number : (o : Option Slot) (p : Pointer) (t : Slot) → ((s : Slot) → 
 element_number None p t on e = absurd (false≢true (ap is_ok e))
 element_number (Some s) p t on e = let k : s ≡ t = found_at s t p (is_inside p (length s.cells)) e in sym (ap (λ (x : Slot). x.number) k) ∙ on s refl
 
-written_at : (c d : Cells) (s : Slot) (p : Pointer) (v : Value) → s.number ≡ p.instance → (b : Bool) → (if b then Ok (record c { live = replace p.instance (with_value s (cell_of p) v) c.live }) else Err WriteLiteral) ≡ Ok d → Alike c d
-written_at c d s p v number true e = subst (λ x. Alike c x) (ap (λ x. the_cells c x) e) (record { most = refl; count = refl; live = λ n h. replaced n p.instance (with_value s (cell_of p) v) c.live number h })
-written_at c d s p v number false e = absurd (false≢true (ap cells_ok e))
+written_at : (c d : Cells) (s : Slot) (n : ℕ) → s.number ≡ n → (b : Bool) → (if b then Ok (record c { live = replace n s c.live }) else Err WriteLiteral) ≡ Ok d → Alike c d
+written_at c d s n number true e = subst (λ x. Alike c x) (ap (λ x. the_cells c x) e) (record { most = refl; count = refl; live = λ m h. replaced m n s c.live number h })
+written_at c d s n number false e = absurd (false≢true (ap cells_ok e))
 
 written_in : (c d : Cells) (r : Result Slot Fault) (p : Pointer) (v : Value) → ((s : Slot) → r ≡ Ok s → s.number ≡ p.instance) → write_in c r p v ≡ Ok d → Alike c d
 written_in c d (Err fault) p v on e = absurd (false≢true (ap cells_ok e))
-written_in c d (Ok s) p v on e = written_at c d s p v (on s refl) s.writable e
+written_in c d (Ok s) p v on e = written_at c d (with_value s (cell_of p) v) p.instance (on s refl) s.writable e
 
-pub written : (c d : Cells) (p : Pointer) (v : Value) → write_of c p v ≡ Ok d → Alike c d
-written c d p v e = written_in c d (element_of c.live p) p v (λ s k. element_number (find p.instance c.live) p s (λ t f. find_number p.instance c.live t f) k) e
+copied_within : (c d : Cells) (r : Result Slot Fault) (p : Pointer) (r' : Result Slot Fault) (q : Pointer) → ((s : Slot) → r' ≡ Ok s → s.number ≡ q.instance) → copied_in c r p r' q ≡ Ok d → Alike c d
+copied_within c d (Err fault) p r' q on e = absurd (false≢true (ap cells_ok e))
+copied_within c d (Ok s) p (Err fault) q on e = absurd (false≢true (ap cells_ok e))
+copied_within c d (Ok s) p (Ok t) q on e = written_at c d (record t { cells = with_part t.cells (cell_of q) (cells_at s p) }) q.instance (on t refl) t.writable e
 
-pub written_living : (c d : Cells) (p : Pointer) (v : Value) (js : List ℕ) → write_of c p v ≡ Ok d → Living (suc c.count) js c → Living (suc d.count) js d
-written_living c d p v js e living =
-    let a = written c d p v e in
-    subst (λ n. Living (suc n) js d) (sym a.count) (living_on (suc c.count) js c d a.live living)
+numbered : (c : Cells) (p : Pointer) (s : Slot) → element_of c.live p ≡ Ok s → s.number ≡ p.instance
+numbered c p s k = element_number (find p.instance c.live) p s (λ t f. find_number p.instance c.live t f) k
+
+written : (c d : Cells) (p : Pointer) (v : Value) → write_of c p v ≡ Ok d → Alike c d
+written c d p v e = written_in c d (element_of c.live p) p v (numbered c p) e
+
+copied : (c d : Cells) (p q : Pointer) → copy_of c p q ≡ Ok d → Alike c d
+copied c d p q e = copied_within c d (element_of c.live p) p (element_of c.live q) q (numbered c q) e
 
 pub record Kept (c d : Cells) (js : List ℕ) : Type 0 where
   pub most : d.most ≡ c.most
   pub count : d.count ≡ c.count
   pub living : Living (suc d.count) js d
 
+alike_kept : (c d : Cells) (js : List ℕ) → Alike c d → Living (suc c.count) js c → Kept c d js
+alike_kept c d js a living = record { most = a.most; count = a.count; living = subst (λ n. Living (suc n) js d) (sym a.count) (living_on (suc c.count) js c d a.live living) }
+
+either_way : (c d : Cells) (js : List ℕ) (r : Result (Unit {0}) Fault) (w : Result Cells Fault) → (w ≡ Ok d → Alike c d) → IsWritten r d w → OnErr r (d ≡ c) → Living (suc c.count) js c → Kept c d js
+either_way c d js (Ok u) w alike is kept living = alike_kept c d js (alike is) living
+either_way c d js (Err fault) w alike is kept living = subst (λ x. Kept c x js) (sym kept) (record { most = refl; count = refl; living = living })
+
 pub either : (c d : Cells) (p : Pointer) (v : Value) (js : List ℕ) (r : Result (Unit {0}) Fault) → IsWritten r d (write_of c p v) → OnErr r (d ≡ c) → Living (suc c.count) js c → Kept c d js
-either c d p v js (Ok u) is kept living = let a = written c d p v is in record { most = a.most; count = a.count; living = written_living c d p v js is living }
-either c d p v js (Err fault) is kept living = subst (λ x. Kept c x js) (sym kept) (record { most = refl; count = refl; living = living })
+either c d p v js r is kept living = either_way c d js r (write_of c p v) (written c d p v) is kept living
+
+-- the same of a copy
+pub either_copied : (c d : Cells) (p q : Pointer) (js : List ℕ) (r : Result (Unit {0}) Fault) → IsWritten r d (copy_of c p q) → OnErr r (d ≡ c) → Living (suc c.count) js c → Kept c d js
+either_copied c d p q js r is kept living = either_way c d js r (copy_of c p q) (copied c d p q) is kept living

@@ -6,7 +6,7 @@ ghost use Rattle.c_tables.specs.Tables.{tables_shape};
 ghost use Rattle.c_meaning.specs.State.{State};
 ghost use Rattle.c_meaning.specs.Layout.{cells};
 ghost use Rattle.c_meaning.specs.Firsts.{cell_at};
-ghost use Rattle.c_meaning.specs.Places.{whole, first_cell, next_cell, object_at, has_part};
+ghost use Rattle.c_meaning.specs.Places.{whole, first_cell, next_cell, first_of, object_at, has_part};
 ghost use Rattle.c_base.specs.Kept.{kept};
 ghost use Rattle.c_world.specs.Steps.{found};
 
@@ -75,6 +75,21 @@ pub fn cell_at(at: Pointer) -> Result<Cell, NoMemory>
     Ok(Cell {
         instance: at.instance,
         index: index as u32,
+    })
+}
+
+/// A pointer to the first cell of the element at that place. There is no memory for a cell's number of more than 32 bits.
+#[inline(always)]
+pub fn first_of(at: Pointer) -> Result<Pointer, NoMemory>
+    ensures { IfOk result (λ q. q ≡ first_of at) }
+{
+    let cell = cell_at(at)?;
+    Ok(Pointer {
+        instance: at.instance,
+        base: cell.index,
+        length: at.size,
+        size: 1,
+        index: 0,
     })
 }
 

@@ -11,6 +11,7 @@ ghost use Rattle.c_world.specs.Lives.{Living, Living-prop, call_instances};
 mod asking;
 mod beginning;
 mod bytes;
+mod copying;
 mod declaring;
 mod entering;
 mod filling;

@@ -2,6 +2,8 @@ pub mod Own
 pub mod Nils
 pub mod Adding
 pub mod Parts
+pub mod Copied
+pub mod Formed
 pub mod Nodes
 pub mod Declarations
 pub mod Cases

@@ -7,13 +7,13 @@ use Rattle.c_syntax.specs.Shape.{NoteShape, bare, known, typed, unary, before, s
 use Rattle.c_tables.specs.Tables.{TablesShape}
 use Rattle.c_walk.specs.declared.around.Around.{Around}
 use Rattle.c_walk.specs.declared.around.Taken.{Taken}
-use Rattle.c_walk.specs.declared.around.Taken.TheVariants.{Read, Written, Changed, Addressed}
+use Rattle.c_walk.specs.declared.around.Taken.TheVariants.{Read, Written, Changed, Copied, Addressed}
 use Rattle.c_walk.specs.Items.{Outcomes, both, only_true, only_false, cases}
 use Rattle.c_tables.specs.Rows.{row}
 use Rattle.c_walk.specs.Tests.{outcomes_of_form, choosing, case_values}
 use Rattle.c_walk.specs.Counted.{next_block, next_def, next_use}
 use Rattle.c_walk.specs.Walking.{walk_node, walk_test, walk_arm}
-use Rattle.c_walk.specs.Walked.{Walked, operand_taken, left_taken, pos_of, with_block_if, with_decision, with_site, inside, inside_test, with_test, next_decision}
+use Rattle.c_walk.specs.Walked.{Walked, operand_taken, left_taken, right_taken, pos_of, with_block_if, with_decision, with_site, inside, inside_test, with_test, next_decision}
 use Rattle.c_walk.specs.Stating.{with_whole_def, walk_declarator, walk_decl, walk_decls, walk_choice, walk_stmt, walk_part, splits, is_labelled, pos_of_stmt, case_count, has_default}
 use Rattle.flow_walks.specs.declared.action.Action.TheVariants.{Define, Use, Block}
 use Rattle.flow_walks.specs.Comes.{Met, act, enter, Comes, emit, emit_if, choice, loop, Ways, value, test, true_way, false_way, decided, evaluated}
@@ -63,6 +63,7 @@ changed_nil : (r : Taken) (a : NodeShape) (w : Walked) (k : Comes) → k [] → 
 changed_nil Changed a w k h = used_nil a w k h
 changed_nil Read a w k h = h
 changed_nil Written a w k h = h
+changed_nil Copied a w k h = h
 changed_nil Addressed a w k h = h
 
 module _ (t : TablesShape) where
@@ -89,7 +90,7 @@ module _ (t : TablesShape) where
     form_nil c r p n (two comma a b) w m h = value_nil c Read a w _ (value_nil c Read b (walk_node c Read a w) (evaluated both m) (h.evaluated_nil both))
     form_nil c r p n (two and a b) w m h = test_nil c a w (emit _ _) (false_way m) tt h.false_nil
     form_nil c r p n (two or a b) w m h = test_nil c a w (true_way m) (emit _ _) h.true_nil tt
-    form_nil c r p n (two (assign u) a b) w m h = value_nil c (left_taken u) a w _ (changed_nil (left_taken u) a w _ (value_nil c Read b (walk_node c (left_taken u) a w) _ (defined_nil a w (evaluated both m) (h.evaluated_nil both))))
+    form_nil c r p n (two (assign u) a b) w m h = value_nil c (left_taken u) a w _ (changed_nil (left_taken u) a w _ (value_nil c (right_taken u a) b (walk_node c (left_taken u) a w) _ (defined_nil a w (evaluated both m) (h.evaluated_nil both))))
     form_nil c r p n (choose a b d) w m h =
         let j = walk_test c a w in
         test_nil c a w _ _ (arm_nil c b j (evaluated both m)) (arm_nil c d (walk_arm c b j) (evaluated both m))

@@ -21,9 +21,9 @@ use Rattle.c_tables.specs.Tables.{FunctionShape}
 use Rattle.c_tables.specs.Rows.{row}
 use Rattle.c_walk.specs.declared.around.Around.{Around}
 use Rattle.c_walk.specs.declared.around.Taken.{Taken}
-use Rattle.c_walk.specs.declared.around.Taken.TheVariants.{Read, Written, Changed, Addressed}
+use Rattle.c_walk.specs.declared.around.Taken.TheVariants.{Read, Written, Changed, Copied, Addressed}
 use Rattle.c_walk.specs.Items.{both, only_true, only_false}
-use Rattle.c_walk.specs.Places.{has_scalar}
+use Rattle.c_walk.specs.Places.{has_scalar, holds_structure}
 use Rattle.c_walk.specs.Tests.{is_logical, is_logical_form, outcome_of, number_constant, outcomes_of_form}
 use Rattle.c_walk.specs.Walked.{Walked, with_block, pos_of, next_decision, inside_test, with_test, with_site}
 use Rattle.c_walk.specs.Counted.{next_block, next_def, next_use}
@@ -36,12 +36,14 @@ use Rattle.c_meaning.specs.Places.{room, first_cell, marks, fetched}
 use Rattle.c_meaning.specs.Constants.{type_at, kind_noted}
 use Rattle.c_meaning.specs.Knot.{Knot}
 use Rattle.c_meaning.specs.Builtins.{built_in, called, called_row, params_of}
-use Rattle.c_meaning.specs.Expressions.{gives, operand, number_value, literal_value, noted_value, cast_value, tested, arm, last_test, written, stepped_from, step_value, meaning, form_meaning, arguments}
+use Rattle.c_meaning.specs.Expressions.{gives, operand, number_value, literal_value, noted_value, cast_value, tested, arm, last_test, written, assigned, stepped_from, step_value, meaning, form_meaning, arguments}
 use Rattle.c_meaning.specs.Calls.{Source}
 use Rattle.flow_walks.specs.declared.action.Action.TheVariants.{Define, Use, Block, Test}
 use Rattle.flow_walks.specs.Comes.{Met, act, enter, Comes, emit, emit_if, choice, Ways, value, test, true_way, false_way, evaluated}
 use Rattle.flow_walks.specs.Expressions.{holds_place, form_holds_place, holds_scalar, form_holds_scalar, used_at, defined_at, reads, read_form, is_defined, entered, node_goes, form_goes, test_goes, arm_goes, nodes_go}
-use Rattle.flow_calls.specs.Orderly.{is_used, form_is_used, IsOrderly, HasOrder, AreOrderly}
+use Rattle.flow_calls.specs.Orderly.{is_used, form_is_used, is_copied, form_is_copied, IsOrderly, HasOrder, AreOrderly}
+use Rattle.flow_calls.proofs.Formed.{emit_none, emit_one, used_then, scalar_place, place_unused}
+use Rattle.flow_calls.proofs.Copied.{adds_copied}
 use Rattle.flow_calls.proofs.Nils.{NilWays, nil_value, nil_test, read_nil, used_nil, defined_nil, entered_nil, form_nil, value_nil, test_nil, arm_nil, nodes_nil}
 use Rattle.flow_calls.proofs.Adding.{AddsBy, Adds, adds_still, stops_none, adds_then, adds_turn, adds_told, adds_to, adds_in, SilentBy, Silent}
 use Rattle.flow_calls.proofs.Parts.{adds_if, adds_choice, adds_settled, adds_needed, adds_wanted, adds_block, adds_loaded, adds_stored, adds_fetched, adds_variable, adds_field, adds_built_in}
@@ -84,70 +86,6 @@ after_nil (value k) b v h = h.true_nil
 after_nil (test d j k) true v h = choice_nil v j k h.true_nil h.false_nil
 after_nil (test d j k) false v h = choice_nil v _ _ tt tt
 
--- ---- places by their form
-
-emit_none : (b : Bool) (a : Met) (k : Comes) (w : List Met) → b ≡ false → k w → emit_if b a k w
-emit_none true a k w e p = absurd (true≢false e)
-emit_none false a k w e p = p
-
-emit_one : (b : Bool) (a : Met) (k : Comes) (w : List Met) → b ≡ true → emit a k w → emit_if b a k w
-emit_one true a k w e p = p
-emit_one false a k w e p = absurd (true≢false (sym e))
-
-mutual
-  -- a scalar's place is a place
-  scalar_place : (a : NodeShape) → holds_scalar a ≡ true → holds_place a ≡ true
-  scalar_place (node p o n f) e = form_scalar_place n f e
-
-  form_scalar_place : (n : NoteShape) (f : ExprShape) → form_holds_scalar n f ≡ true → form_holds_place f ≡ true
-  form_scalar_place n (paren a) e = scalar_place a e
-  form_scalar_place n (probe u a) e = scalar_place a e
-  form_scalar_place n (leaf (name x)) e = refl
-  form_scalar_place n (suffix a (index b)) e = refl
-  form_scalar_place n (suffix a (field h x q)) e = refl
-  form_scalar_place n (prefix (unary front.Deref) a) e = refl
-  form_scalar_place n (leaf (number x)) e = absurd (true≢false (sym e))
-  form_scalar_place n (leaf (char c)) e = absurd (true≢false (sym e))
-  form_scalar_place n (leaf (str x)) e = absurd (true≢false (sym e))
-  form_scalar_place n (call x args) e = absurd (true≢false (sym e))
-  form_scalar_place n (prefix (unary front.AddressOf) a) e = absurd (true≢false (sym e))
-  form_scalar_place n (prefix (unary front.Plus) a) e = absurd (true≢false (sym e))
-  form_scalar_place n (prefix (unary front.Minus) a) e = absurd (true≢false (sym e))
-  form_scalar_place n (prefix (unary front.Flip) a) e = absurd (true≢false (sym e))
-  form_scalar_place n (prefix (unary front.Not) a) e = absurd (true≢false (sym e))
-  form_scalar_place n (prefix (before u) a) e = absurd (true≢false (sym e))
-  form_scalar_place n (prefix size_of a) e = absurd (true≢false (sym e))
-  form_scalar_place n (size_of_type y) e = absurd (true≢false (sym e))
-  form_scalar_place n (cast y a) e = absurd (true≢false (sym e))
-  form_scalar_place n (suffix a (behind u)) e = absurd (true≢false (sym e))
-  form_scalar_place n (two (plain u) a b) e = absurd (true≢false (sym e))
-  form_scalar_place n (two and a b) e = absurd (true≢false (sym e))
-  form_scalar_place n (two or a b) e = absurd (true≢false (sym e))
-  form_scalar_place n (two (assign u) a b) e = absurd (true≢false (sym e))
-  form_scalar_place n (two comma a b) e = absurd (true≢false (sym e))
-  form_scalar_place n (choose a b d) e = absurd (true≢false (sym e))
-
-mutual
-  -- what is written is not used there
-  place_unused : (a : NodeShape) → IsOrderly a → holds_place a ≡ true → (is_used Written a ≡ false) × (is_used Changed a ≡ false)
-  place_unused (node p o n f) h e = form_unused n f h e
-
-  form_unused : (n : NoteShape) (f : ExprShape) → HasOrder f → form_holds_place f ≡ true → (form_is_used Written n f ≡ false) × (form_is_used Changed n f ≡ false)
-  form_unused n (paren a) h e = place_unused a h e
-  form_unused n (probe u a) h e = absurd h
-  form_unused n (two comma a b) h e = absurd (true≢false (sym e))
-  form_unused n (leaf l) h e = (refl, refl)
-  form_unused n (suffix a u) h e = (refl, refl)
-  form_unused n (prefix u a) h e = (refl, refl)
-  form_unused n (call x args) h e = (refl, refl)
-  form_unused n (size_of_type y) h e = (refl, refl)
-  form_unused n (cast y a) h e = (refl, refl)
-  form_unused n (two (plain u) a b) h e = (refl, refl)
-  form_unused n (two and a b) h e = (refl, refl)
-  form_unused n (two or a b) h e = (refl, refl)
-  form_unused n (two (assign u) a b) h e = (refl, refl)
-  form_unused n (choose a b d) h e = (refl, refl)
-
 module _ (P : Source) (F : List Bound) (kn : Knot) where
   -- what is behind a call adds nothing to the caller's own
   abbrev pub Calling : Type 0
@@ -156,6 +94,10 @@ module _ (P : Source) (F : List Bound) (kn : Knot) where
   -- an expression as a value, and as a place that is taken so
   abbrev pub Values : NodeShape → Type 1
   Values a = (c : Around) (w : Walked) (m : Ways) → NilWays m → (s : State) → Adds P F (node_goes P.tables c Read a w m) s ((meaning P.tables kn a).value (heard c w) s) (λ v. after m (is_logical a) (holds v))
+
+  -- a structure's place, which is used as it is copied
+  abbrev pub Copies : NodeShape → Type 1
+  Copies a = (c : Around) (w : Walked) (k : Comes) → k [] → (s : State) → Adds P F (node_goes P.tables c Copied a w (value k)) s ((meaning P.tables kn a).place Copied (heard c w) s) (λ q. emit (act (Use (next_use w))) k)
 
   abbrev pub Places : Taken → NodeShape → Type 1
   Places r a = (c : Around) (w : Walked) (k : Comes) → k [] → (s : State) → Adds P F (node_goes P.tables c r a w (value k)) s ((meaning P.tables kn a).place r (heard c w) s) (λ q. k)
@@ -255,7 +197,10 @@ module _ (P : Source) (F : List Bound) (kn : Knot) where
 
   -- ---- forms of a place
 
-  -- a place that isn't used there
+  -- a place that is used there, and one that isn't
+  used_adds : (n : NoteShape) (f : ExprShape) (w : Walked) (j k : Comes) (s : State) (g : Got Pointer) → reads Copied n f ≡ true → Adds P F j s g (λ q. read_form Copied n f w k) → Adds P F j s g (λ q. emit (act (Use (next_use w))) k)
+  used_adds n f w j k s g e a = adds_to P F j s g _ _ (λ q v p. emit_one (reads Copied n f) _ k v e p) a
+
   unused_adds : (r : Taken) (n : NoteShape) (f : ExprShape) (w : Walked) (j k : Comes) (s : State) (g : Got Pointer) → reads r n f ≡ false → Adds P F j s g (λ q. read_form r n f w k) → Adds P F j s g (λ q. k)
   unused_adds r n f w j k s g e a = adds_to P F j s g _ _ (λ q w p. emit_none (reads r n f) _ k w e p) a
 
@@ -333,16 +278,25 @@ module _ (P : Source) (F : List Bound) (kn : Knot) where
   cast_adds (array y n) k j s r h f = adds_then P F j s _ _ _ _ (adds_wanted P F j s r k h f) (λ v s. adds_still P F k s _ _ (λ w p. p))
   cast_adds (structure n) k j s r h f = adds_then P F j s _ _ _ _ (adds_wanted P F j s r k h f) (λ v s. adds_still P F k s _ _ (λ w p. p))
 
-  assign_adds : (p : Pos) (n : NoteShape) (a b : NodeShape) → Places Written a → holds_place a ≡ true → Values b → (c : Around) (w : Walked) (m : Ways) → NilWays m → (s : State)
-      → Adds P F (form_goes P.tables c Read p n (two (assign None) a b) w m) s ((form_meaning P.tables kn p n (two (assign None) a b)).value (heard c w) s) (λ v. after m false (holds v))
-  assign_adds p n a b pa e vb c w m h s =
+  -- where the left side holds a structure, the right one is a place that is used and copied
+  assigned_adds : (z : Bool) (a b : NodeShape) → holds_place a ≡ true → Values b → (z ≡ true → Copies b) → (c : Around) (w : Walked) (m : Ways) → NilWays m → (q : Pointer) (s : State)
+      → Adds P F (node_goes P.tables c (if z then Copied else Read) b (walk_node c Written a w) (value (defined_at a w (evaluated both m)))) s (assigned z (type_at a) (marks def a) (marks used b) (meaning P.tables kn b) (heard c w) (heard c (walk_node c Written a w)) q s) (λ v. after m false (holds v))
+  assigned_adds true a b e vb cb c w m h q s =
       let nil = h.evaluated_nil both in
       let def_nil = defined_nil a w (evaluated both m) nil in
-      let right = value_nil P.tables c Read b (walk_node c Written a w) _ def_nil in
+      adds_then P F _ s _ _ _ _ (cb refl c (walk_node c Written a w) _ def_nil s) (λ r s.
+      to_done m _ s _ (adds_in P F _ _ s _ _ (λ v p. used_then _ (holds_place a) _ _ v e p) (adds_copied P F (marks def a) (marks used b) c w (walk_node c Written a w) q r (evaluated both m) s nil)))
+  assigned_adds false a b e vb cb c w m h q s =
+      let nil = h.evaluated_nil both in
+      adds_then P F _ s _ _ _ _ (wanted b vb c (walk_node c Written a w) _ (defined_nil a w (evaluated both m) nil) s) (λ v s.
+      to_done m _ s _ (adds_in P F _ _ s _ _ (λ w p. emit_one (holds_place a) _ _ w e p) (written_adds (type_at a) (marks def a) c w q v (evaluated both m) s nil)))
+
+  assign_adds : (p : Pos) (n : NoteShape) (a b : NodeShape) → Places Written a → holds_place a ≡ true → Values b → (holds_structure a ≡ true → Copies b) → (c : Around) (w : Walked) (m : Ways) → NilWays m → (s : State)
+      → Adds P F (form_goes P.tables c Read p n (two (assign None) a b) w m) s ((form_meaning P.tables kn p n (two (assign None) a b)).value (heard c w) s) (λ v. after m false (holds v))
+  assign_adds p n a b pa e vb cb c w m h s =
+      let right = value_nil P.tables c (if holds_structure a then Copied else Read) b (walk_node c Written a w) _ (defined_nil a w (evaluated both m) (h.evaluated_nil both)) in
       adds_turn P F _ s _ _ (value_nil P.tables c Written a w _ right) (λ s.
-      adds_then P F _ s _ _ _ _ (pa c w _ right s) (λ q s.
-      adds_then P F _ s _ _ _ _ (wanted b vb c (walk_node c Written a w) _ def_nil s) (λ v s.
-      to_done m _ s _ (adds_in P F _ _ s _ _ (λ w p. emit_one (holds_place a) _ _ w e p) (written_adds (type_at a) (marks def a) c w q v (evaluated both m) s nil)))))
+      adds_then P F _ s _ _ _ _ (pa c w _ right s) (λ q s. assigned_adds (holds_structure a) a b e vb cb c w m h q s))
 
   change_adds : (u : BinaryOp) (p : Pos) (n : NoteShape) (a b : NodeShape) → Places Changed a → holds_scalar a ≡ true → Values b → (c : Around) (w : Walked) (m : Ways) → NilWays m → (s : State)
       → Adds P F (form_goes P.tables c Read p n (two (assign (Some u)) a b) w m) s ((form_meaning P.tables kn p n (two (assign (Some u)) a b)).value (heard c w) s) (λ v. after m false (holds v))
@@ -438,7 +392,7 @@ module _ (P : Source) (F : List Bound) (kn : Knot) where
       form_adds p n (suffix a (field dot x q)) g c w m h s = fetch n c w m h _ s _ (dot_found Read p q n a x (place_adds Read a g.0 g.1) c w m h s)
       form_adds p n (suffix a (field arrow x q)) g c w m h s = fetch n c w m h _ s _ (arrow_found Read p q n a x (value_adds a g) c w m h s)
       form_adds p n (suffix a (behind u)) g c w m h s = step_adds false u a (place_adds Changed a g.0 (place_unused a g.0 (scalar_place a g.1)).1) g.1 c w m h s
-      form_adds p n (two (assign None) a b) g c w m h s = assign_adds p n a b (place_adds Written a g.0 (place_unused a g.0 g.1).0) g.1 (value_adds b g.2) c w m h s
+      form_adds p n (two (assign None) a b) g c w m h s = assign_adds p n a b (place_adds Written a g.0 (place_unused a g.0 g.1).0) g.1 (value_adds b g.2) (λ e. copied_adds b g.2 (g.3 e).1) c w m h s
       form_adds p n (two (assign (Some u)) a b) g c w m h s = change_adds u p n a b (place_adds Changed a g.0 (place_unused a g.0 (scalar_place a g.1)).1) g.1 (value_adds b g.2) c w m h s
       form_adds p n (two (plain u) a b) g c w m h s = plain_adds u p n a b (value_adds a g.0) (value_adds b g.1) c w m h s
       form_adds p n (two and a b) g c w m h s = and_adds p n a b (value_adds a g.0) (value_adds b g.1) c w m h s
@@ -479,6 +433,34 @@ module _ (P : Source) (F : List Bound) (kn : Knot) where
       form_place_adds r p n (two (assign (Some u)) a b) g e c w k h s = stops_none P F _ _ s _ (form_nil P.tables c r p n (two (assign (Some u)) a b) w _ (nil_value k h))
       form_place_adds r p n (choose a b d) g e c w k h s = stops_none P F _ _ s _ (form_nil P.tables c r p n (choose a b d) w _ (nil_value k h))
       form_place_adds r p n (probe u a) g e c w k h s = absurd g
+
+      copied_adds : (a : NodeShape) → IsOrderly a → is_copied a ≡ true → Copies a
+      copied_adds (node p o n f) g e c w k h s = form_copied_adds p n f g e c w k h s
+
+      form_copied_adds : (p : Pos) (n : NoteShape) (f : ExprShape) → HasOrder f → form_is_copied n f ≡ true → (c : Around) (w : Walked) (k : Comes) → k [] → (s : State) → Adds P F (form_goes P.tables c Copied p n f w (value k)) s ((form_meaning P.tables kn p n f).place Copied (heard c w) s) (λ q. emit (act (Use (next_use w))) k)
+      form_copied_adds p n (leaf (name x)) g e c w k h s = used_adds n (leaf (name x)) w _ k s _ e (name_found Copied p n x c w k h s)
+      form_copied_adds p n (paren a) g e c w k h s = copied_adds a g e c w k h s
+      form_copied_adds p n (prefix (unary front.Deref) a) g e c w k h s = used_adds n (prefix (unary front.Deref) a) w _ k s _ e (deref_found Copied p n a (value_adds a g) c w (value k) (nil_value k h) s)
+      form_copied_adds p n (suffix a (index b)) g e c w k h s = used_adds n (suffix a (index b)) w _ k s _ e (index_found Copied p n a b (value_adds a g.0) (value_adds b g.1) c w (value k) (nil_value k h) s)
+      form_copied_adds p n (suffix a (field dot x q)) g e c w k h s = used_adds n (suffix a (field dot x q)) w _ k s _ e (dot_found Copied p q n a x (place_adds Read a g.0 g.1) c w (value k) (nil_value k h) s)
+      form_copied_adds p n (suffix a (field arrow x q)) g e c w k h s = used_adds n (suffix a (field arrow x q)) w _ k s _ e (arrow_found Copied p q n a x (value_adds a g) c w (value k) (nil_value k h) s)
+      form_copied_adds p n (leaf (number x)) g e c w k h s = absurd (true≢false (sym e))
+      form_copied_adds p n (leaf (char b)) g e c w k h s = absurd (true≢false (sym e))
+      form_copied_adds p n (leaf (str x)) g e c w k h s = absurd (true≢false (sym e))
+      form_copied_adds p n (call x args) g e c w k h s = absurd (true≢false (sym e))
+      form_copied_adds p n (prefix (unary front.AddressOf) a) g e c w k h s = absurd (true≢false (sym e))
+      form_copied_adds p n (prefix (unary front.Plus) a) g e c w k h s = absurd (true≢false (sym e))
+      form_copied_adds p n (prefix (unary front.Minus) a) g e c w k h s = absurd (true≢false (sym e))
+      form_copied_adds p n (prefix (unary front.Flip) a) g e c w k h s = absurd (true≢false (sym e))
+      form_copied_adds p n (prefix (unary front.Not) a) g e c w k h s = absurd (true≢false (sym e))
+      form_copied_adds p n (prefix (before u) a) g e c w k h s = absurd (true≢false (sym e))
+      form_copied_adds p n (prefix size_of a) g e c w k h s = absurd (true≢false (sym e))
+      form_copied_adds p n (size_of_type y) g e c w k h s = absurd (true≢false (sym e))
+      form_copied_adds p n (cast y a) g e c w k h s = absurd (true≢false (sym e))
+      form_copied_adds p n (suffix a (behind u)) g e c w k h s = absurd (true≢false (sym e))
+      form_copied_adds p n (two u a b) g e c w k h s = absurd (true≢false (sym e))
+      form_copied_adds p n (choose a b d) g e c w k h s = absurd (true≢false (sym e))
+      form_copied_adds p n (probe u a) g e c w k h s = absurd g
 
       arguments_adds : (args : NodeShapes) → AreOrderly args → (ts : List TypeOf) (c : Around) (w : Walked) (k : Comes) → k [] → (s : State) → Adds P F (nodes_go P.tables c args w k) s (arguments P.tables kn args ts (heard c w) s) (λ vs. k)
       arguments_adds no_nodes g ts c w k h s = adds_still P F k s _ _ (λ w p. p)

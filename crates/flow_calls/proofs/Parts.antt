@@ -90,13 +90,16 @@ module _ (P : Source) (F : List Bound) where
   pub adds_outcome : {A : Type 0} (c : Around) (w : Walked) (o : ℕ) (i : Comes) (s : State) (r : Got A) (L : A → Comes) → Adds P F i (noted_outcome (heard c w) o s) r L → Adds P F (emit (act (Test (next_decision w) o)) i) s r L
   adds_outcome c w o i s r L f = adds_told P F (event.Test (next_decision w) o (activation s)) i s r L f
 
-  adds_use : {A : Type 0} (c : Around) (w : Walked) (q : Pointer) (i : Comes) (s : State) (r : Got A) (L : A → Comes) → Adds P F i (noted_use tells (heard c w) q s) r L → Adds P F (emit (act (Use (next_use w))) i) s r L
+  pub adds_use : {A : Type 0} (c : Around) (w : Walked) (q : Pointer) (i : Comes) (s : State) (r : Got A) (L : A → Comes) → Adds P F i (noted_use tells (heard c w) q s) r L → Adds P F (emit (act (Use (next_use w))) i) s r L
   adds_use c w q i s r L f = adds_told P F (event.Use (next_use w) (cell_at q) (activation s)) i s r L f
 
-  adds_def : {A : Type 0} (c : Around) (w : Walked) (q : Pointer) (i : Comes) (s : State) (r : Got A) (L : A → Comes) → Adds P F i (noted_def tells (heard c w) q s) r L → Adds P F (emit (act (Define (next_def w))) i) s r L
+  pub adds_use_again : {A : Type 0} (c : Around) (w : Walked) (q : Pointer) (i : Comes) (s : State) (r : Got A) (L : A → Comes) → Adds P F i (noted_use repeats (heard c w) q s) r L → Adds P F i s r L
+  adds_use_again c w q i s r L f = adds_repeated P F (event.Use (next_use w) (cell_at q) (activation s)) i s r L f
+
+  pub adds_def : {A : Type 0} (c : Around) (w : Walked) (q : Pointer) (i : Comes) (s : State) (r : Got A) (L : A → Comes) → Adds P F i (noted_def tells (heard c w) q s) r L → Adds P F (emit (act (Define (next_def w))) i) s r L
   adds_def c w q i s r L f = adds_told P F (event.Def (next_def w) (cell_at q)) i s r L f
 
-  adds_def_again : {A : Type 0} (c : Around) (w : Walked) (q : Pointer) (i : Comes) (s : State) (r : Got A) (L : A → Comes) → Adds P F i (noted_def repeats (heard c w) q s) r L → Adds P F i s r L
+  pub adds_def_again : {A : Type 0} (c : Around) (w : Walked) (q : Pointer) (i : Comes) (s : State) (r : Got A) (L : A → Comes) → Adds P F i (noted_def repeats (heard c w) q s) r L → Adds P F i s r L
   adds_def_again c w q i s r L f = adds_repeated P F (event.Def (next_def w) (cell_at q)) i s r L f
 
   -- ---- places
@@ -105,7 +108,7 @@ module _ (P : Source) (F : List Bound) where
   adds_loaded xs c w q k s h = adds_then P F _ s (settled (read_of s.store q) s) _ _ _ (adds_settled (read_of s.store q) _ s tt) (λ v s.
       adds_use c w q k s _ _ (adds_logs (log_use q) xs k (noted_use tells (heard c w) q s) _ _ (λ m s. record { deeds = refl; last = refl; calls = refl; file = refl }) h (λ s. adds_still P F k s v _ (λ w p. p))))
 
-  stored_in : (s : State) (c : Cells) → Still s (record s { store = c })
+  pub stored_in : (s : State) (c : Cells) → Still s (record s { store = c })
   stored_in s c = record { deeds = refl; last = refl; calls = refl; file = refl }
 
   pub adds_stored : (xs : List Text) (c : Around) (w : Walked) (q : Pointer) (v : Value) (k : Comes) (s : State) → k [] → Adds P F (emit (act (Define (next_def w))) k) s (stored tells xs (heard c w) q v s) (λ v. k)

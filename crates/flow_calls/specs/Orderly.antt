@@ -8,7 +8,8 @@ use Rattle.c_tables.specs.Tables.{TablesShape}
 use Rattle.c_tables.specs.Rows.{text_of}
 use Rattle.c_walk.specs.declared.around.Around.{Around}
 use Rattle.c_walk.specs.declared.around.Taken.{Taken}
-use Rattle.c_walk.specs.declared.around.Taken.TheVariants.{Read, Addressed}
+use Rattle.c_walk.specs.declared.around.Taken.TheVariants.{Read, Copied, Addressed}
+use Rattle.c_walk.specs.Places.{holds_structure}
 use Rattle.c_walk.specs.Walked.{Walked, with_block, with_block_if}
 use Rattle.c_walk.specs.Walking.{walk_test, walk_maybe, walk_loop_test, walk_maybe_test, walk_step}
 use Rattle.c_walk.specs.Stating.{walk_declarator, walk_decl, walk_decls, splits, is_labelled, pos_of_stmt, walk_choice, walk_stmt, walk_part}
@@ -35,6 +36,15 @@ abbrev mutual
   form_is_used r n (two comma a b) = is_used Read b
   form_is_used r n f = reads r n f
 
+-- a place of a structure, past parentheses, which is used where it is copied
+abbrev mutual
+  pub is_copied : NodeShape → Bool
+  is_copied (node p o n f) = form_is_copied n f
+
+  pub form_is_copied : NoteShape → ExprShape → Bool
+  form_is_copied n (paren a) = is_copied a
+  form_is_copied n f = reads Copied n f
+
 abbrev mutual
   pub IsOrderly : NodeShape → Type 0
   IsOrderly (node p o n f) = HasOrder f
@@ -53,7 +63,7 @@ abbrev mutual
   HasOrder (suffix a (field dot x q)) = IsOrderly a × (is_used Read a ≡ false)
   HasOrder (suffix a (field arrow x q)) = IsOrderly a
   HasOrder (suffix a (behind u)) = IsOrderly a × (holds_scalar a ≡ true)
-  HasOrder (two (assign None) a b) = IsOrderly a × (holds_place a ≡ true) × IsOrderly b
+  HasOrder (two (assign None) a b) = IsOrderly a × (holds_place a ≡ true) × IsOrderly b × (holds_structure a ≡ true → (is_copied a ≡ true) × (is_copied b ≡ true))
   HasOrder (two (assign (Some u)) a b) = IsOrderly a × (holds_scalar a ≡ true) × IsOrderly b
   HasOrder (two (plain u) a b) = IsOrderly a × IsOrderly b
   HasOrder (two and a b) = IsOrderly a × IsOrderly b

@@ -69,7 +69,7 @@ has_scalar_kind (Some y) = is_scalar y
 
 -- a scalar variable by its own name, which isn't declared outside
 abbrev pub is_local : TablesShape → List ℕ → Direct → Bool
-is_local t outer d = is_plain d.name && (has_scalar_kind (variable_kind t d.variable) && not (is_among d.variable outer))
+is_local t outer d = is_plain d.name && (is_scalar d.kind && (has_scalar_kind (variable_kind t d.variable) && not (is_among d.variable outer)))
 
 -- ---- sites
 

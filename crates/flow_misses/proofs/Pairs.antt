@@ -1,6 +1,6 @@
 -- The pairs that a run makes are listed.
 use Rattle.std.proofs.Common.{ℕ, List, [], ◌∷◌, ◌++◌, ◌≡◌, ◌⊎◌, inl, inr, refl, subst, sym, ap, ◌∙◌, append_assoc, arith, Option, Some, None, Bool, true, false}
-use Rattle.std.specs.Prelude.{nat_eq, ◌&&◌, Contains, if◌then◌else◌}
+use Rattle.std.specs.Prelude.{nat_eq, ◌&&◌, is_some, Contains, if◌then◌else◌}
 use Rattle.std.proofs.lemmas.Bool.{true≢false}
 use Rattle.std.proofs.lemmas.List.Elements.{Contains-push_cases}
 use Rattle.c_events.specs.declared.events.Cell.{Cell}
@@ -222,7 +222,7 @@ module _ (S : Sites) (ds : List Deed) (placed : AreInPlace S ds) where
 
     told_use : IsTold pair.last (Use u pair.cell pair.noted) → pair.last ≡ tells (Use u pair.cell pair.noted)
     told_use (inl e) = e
-    told_use (inr e) = absurd (subst (At S (pair.pre ++ D ∷ pair.mid) pair.user) e (placed (pair.pre ++ D ∷ pair.mid) pair.post U used_is))
+    told_use (inr e) = absurd (true≢false (sym (ap is_some (sym (subst (At S (pair.pre ++ D ∷ pair.mid) pair.user) e (placed (pair.pre ++ D ∷ pair.mid) pair.post U used_is)) ∙ ur))))
 
     used_at : UsedAt S (pair.pre ++ D ∷ pair.mid) pair.user pair.cell (Some r)
     used_at = subst (UsedAt S (pair.pre ++ D ∷ pair.mid) pair.user pair.cell) ur (subst (At S (pair.pre ++ D ∷ pair.mid) pair.user) (told_use pair.used) (placed (pair.pre ++ D ∷ pair.mid) pair.post U used_is))

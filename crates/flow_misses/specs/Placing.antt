@@ -106,6 +106,7 @@ IsRepeated S ds a d c (Some v) = IsFurther S ds a d c v
 
 abbrev pub RepeatedAt : Sites → List Deed → ℕ → Event → Type 0
 RepeatedAt S ds a (Def d c) = IsRepeated S ds a d c (S.defined d)
+RepeatedAt S ds a (Use u c b) = S.used u ≡ None
 RepeatedAt S ds a e = ⊥
 
 -- an act of that activation behind these deeds

@@ -1,10 +1,11 @@
 -- Trees without probes, in which the operands of `&` and `.` are no used places.
-use Rattle.std.specs.Prelude.{◌≡◌, List, [], ◌∷◌, Bool, false}
+use Rattle.std.specs.Prelude.{◌≡◌, List, [], ◌∷◌, Bool, true, false, Option, Some, None}
 use Rattle.c_syntax.specs.declared.tree.UnaryOp.{UnaryOp}
 use Rattle.c_syntax.specs.declared.tree.UnaryOp.TheVariants as front
-use Rattle.c_syntax.specs.Shape.{unary, before, size_of, Access, dot, arrow, NodeShape, node, ExprShape, leaf, paren, call, prefix, size_of_type, cast, suffix, two, choose, probe, index, field, behind, NodeShapes, no_nodes, more_nodes, MaybeNode, no_node, one_node, DeclShape, decl, DeclShapes, no_decls, more_decls, DeclaratorShape, declarator, DeclaratorShapes, no_declarators, more_declarators, arrays, function, MaybeInit, no_init, one_init, InitShape, one, listed, StmtShape, stmt, FormShape, compound, simply, when, either, while, do_while, for, switch, break, continue, return, CompoundShape, braces, ItemShapes, no_items, more_items, ExternalShape, defined, declared}
+use Rattle.c_syntax.specs.Shape.{unary, before, size_of, Infix, assign, Access, dot, arrow, NodeShape, node, ExprShape, leaf, paren, call, prefix, size_of_type, cast, suffix, two, choose, probe, index, field, behind, NodeShapes, no_nodes, more_nodes, MaybeNode, no_node, one_node, DeclShape, decl, DeclShapes, no_decls, more_decls, DeclaratorShape, declarator, DeclaratorShapes, no_declarators, more_declarators, arrays, function, MaybeInit, no_init, one_init, InitShape, one, listed, StmtShape, stmt, FormShape, compound, simply, when, either, while, do_while, for, switch, break, continue, return, CompoundShape, braces, ItemShapes, no_items, more_items, ExternalShape, defined, declared}
 use Rattle.c_walk.specs.declared.around.Taken.TheVariants.{Read, Addressed}
-use Rattle.flow_calls.specs.Orderly.{is_used}
+use Rattle.c_walk.specs.Places.{holds_structure}
+use Rattle.flow_calls.specs.Orderly.{is_used, is_copied}
 
 -- ---- expressions
 
@@ -15,6 +16,11 @@ Unused u a = Unit {0}
 abbrev pub Unread : Access → NodeShape → Type 0
 Unread dot a = is_used Read a ≡ false
 Unread arrow a = Unit {0}
+
+-- a structure to the left of `=` is copied, and so is the one to the right
+abbrev pub CopiesApt : Infix → NodeShape → NodeShape → Type 0
+CopiesApt (assign None) a b = holds_structure a ≡ true → (is_copied a ≡ true) × (is_copied b ≡ true)
+CopiesApt u a b = Unit {0}
 
 abbrev mutual
   pub IsApt : NodeShape → Type 0
@@ -32,7 +38,7 @@ abbrev mutual
   HasAptParts (suffix a (index b)) = IsApt a × IsApt b
   HasAptParts (suffix a (field h x q)) = IsApt a × Unread h a
   HasAptParts (suffix a (behind u)) = IsApt a
-  HasAptParts (two u a b) = IsApt a × IsApt b
+  HasAptParts (two u a b) = IsApt a × IsApt b × CopiesApt u a b
   HasAptParts (choose a b d) = IsApt a × IsApt b × IsApt d
   HasAptParts (probe u a) = ⊥
 

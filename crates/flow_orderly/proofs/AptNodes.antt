@@ -12,10 +12,11 @@ use Rattle.c_type_rules.specs.Kinds.{decay}
 use Rattle.c_constants.specs.declared.constants.Constant.{Constant}
 use Rattle.c_constants.specs.declared.constants.Constant.TheVariants as constant
 use Rattle.c_scopes.specs.Scoping.{find}
+use Rattle.c_tree.specs.declared.meaning.Side.TheVariants.{Neither}
 use Rattle.c_tree.specs.State.{State, step, steps, is_clean}
 use Rattle.c_tree.specs.Rulings.{by, rule, kind_at, of_kind, allowed_if, comma_kind}
 use Rattle.c_tree.specs.Sorts.{Sort, note_of, cleared, pos_in, changeable}
-use Rattle.c_tree.specs.Operators.{called, Given, given_at, typed_call, unary_rule, place_rule, step_rule, choice_rule, element_rule, holder, field_rule}
+use Rattle.c_tree.specs.Operators.{called, Given, given_at, typed_call, typed_infix, left_of, right_of, sided, entering, unary_rule, place_rule, step_rule, choice_rule, element_rule, holder, field_rule}
 use Rattle.c_tree.specs.Typing.{opening, type_node, type_form, type_arguments, type_type}
 use Rattle.c_walk.specs.declared.around.Taken.TheVariants.{Read, Addressed}
 use Rattle.c_walk.specs.Places.{is_place, has_scalar}
@@ -23,11 +24,12 @@ use Rattle.c_sites_probes.specs.Marked.{first, node_mark, form_mark, nodes_mark,
 use Rattle.probe_rules.proofs.ReadyUnits.{some_none, none_first, none_second}
 use Rattle.probe_rules.proofs.Grows.{rule_grows, typed_call_grows, infix_grows, node_grows, form_grows, arguments_grows}
 use Rattle.probe_laws.proofs.Settled.{IsThere, IsClean, IsStructure, dot_held, structure_there}
-use Rattle.probe_laws.proofs.Rules.{back, changeable_there}
+use Rattle.probe_laws.proofs.Rules.{back, changeable_there, infix_there}
 use Rattle.probe_laws.proofs.Known.{Knows, find_sure}
 use Rattle.probe_laws.proofs.KnownParts.{called_knows}
 use Rattle.probe_laws.proofs.KnownNodes.{node_knows, type_knows}
 use Rattle.flow_calls.specs.Orderly.{is_used, form_is_used}
+use Rattle.flow_orderly.proofs.Copies.{copies_apt}
 use Rattle.flow_orderly.proofs.Apt.{Unused, Unread, IsApt, HasAptParts, AreApt}
 
 -- ---- what is a place by its typing isn't used where its address is taken
@@ -50,7 +52,7 @@ cleared_kind false a n e = cc
 
 mutual
   unaddressed : (a : NodeShape) (s : State) → (type_node a s).sort.place ≡ true → is_used Addressed (type_node a s).node ≡ false
-  unaddressed (node p o n f) s e = let t = type_form p o f s in form_unaddressed p o f s _ (cleared_place (is_clean s t.state) t.typing.sort e)
+  unaddressed (node p o n f) s e = let t = type_form p o f (entering f s) in form_unaddressed p o f (entering f s) _ (cleared_place (is_clean s t.state) t.typing.sort e)
 
   form_unaddressed : (p o : Pos) (f : ExprShape) (s : State) (n : _) → (type_form p o f s).typing.sort.place ≡ true → form_is_used Addressed n (type_form p o f s).form ≡ false
   form_unaddressed p o (paren a) s n e = unaddressed a (step s) e
@@ -105,13 +107,13 @@ comma_structure (Some t) (Some u) n e = decay_structure u n e
 mutual
   unread : (a : NodeShape) (s : State) (n : ℕ) → (type_node a s).sort.kind ≡ Some (structure n) → is_used Read (type_node a s).node ≡ false
   unread (node p o m f) s n e =
-      let t = type_form p o f s in
-      form_unread p o f s n (cleared (is_clean s t.state) t.typing.sort).kind e (cleared_kind (is_clean s t.state) t.typing.sort n e)
+      let t = type_form p o f (entering f s) in
+      form_unread p o f (entering f s) n (cleared (is_clean s t.state) t.typing.sort).kind e (cleared_kind (is_clean s t.state) t.typing.sort n e)
 
   form_unread : (p o : Pos) (f : ExprShape) (s : State) (n : ℕ) (k : Option TypeOf) → k ≡ Some (structure n) → (type_form p o f s).typing.sort.kind ≡ Some (structure n)
       → (let t = type_form p o f s in form_is_used Read (note_of k t.typing.sort.constant t.typing.names t.typing.valued) t.form ≡ false)
   form_unread p o (paren a) s n k e h = unread a (step s) n h
-  form_unread p o (two comma a b) s n k e h = let t = type_node a s in let v = type_node b (step t.state) in unread b (step t.state) n (comma_structure t.sort.kind v.sort.kind n h)
+  form_unread p o (two comma a b) s n k e h = let t = type_node a (sided Neither s) in let v = type_node b (sided Neither (step t.state)) in unread b (sided Neither (step t.state)) n (comma_structure t.sort.kind v.sort.kind n h)
   form_unread p o (leaf (number x)) s n k e h = refl
   form_unread p o (leaf (char x)) s n k e h = refl
   form_unread p o (leaf (str x)) s n k e h = refl
@@ -169,7 +171,7 @@ holder_unread dot a s token o is c =
 
 mutual
   pub node_apt : (a : NodeShape) (s : State) → Shaped a → node_mark (type_node a s).node ≡ None → Knows false s → IsClean (type_node a s).state → IsApt (type_node a s).node
-  node_apt (node p o n f) s is m h c = form_apt p o f s is.1 m h c
+  node_apt (node p o n f) s is m h c = form_apt p o f (entering f s) is.1 m h c
 
   form_apt : (p o : Pos) (f : ExprShape) (s : State) → ShapedExpr f → form_mark p (type_form p o f s).form ≡ None → Knows false s → IsClean (type_form p o f s).state → HasAptParts (type_form p o f s).form
   form_apt p o (leaf (number t)) s is m h c = tt
@@ -227,12 +229,20 @@ mutual
       let q = step_rule t.state.rooms t.sort in
       node_apt a s is.1 (none_first (node_mark t.node) None m) h (back (rule_grows (changeable t.sort) s.at (pos_in a) (step t.state)) (back (rule_grows q t.state.at o v) c))
   form_apt p o (two u a e) s is m h c =
-      let t = type_node a s in
-      let v = type_node e (step t.state) in
+      let t = type_node a (sided (left_of u) s) in
+      let w = sided (right_of u t.sort.kind) (step t.state) in
+      let v = type_node e w in
       let late = back (infix_grows t.state.at o s.at (pos_in a) u t.sort v.sort v.state) c in
-      let early = back (node_grows e (step t.state)) late in
-      let one = node_knows a s is.2 h early in
-      (node_apt a s is.2 (none_first (node_mark t.node) (node_mark v.node) m) h early, node_apt e (step t.state) is.4 (none_second (node_mark t.node) (node_mark v.node) m) one.1.0 late)
+      let early = back (node_grows e w) late in
+      let one = node_knows a (sided (left_of u) s) is.2 h early in
+      let front = none_first (node_mark t.node) (node_mark v.node) m in
+      let behind = none_second (node_mark t.node) (node_mark v.node) m in
+      let other = node_knows e w is.4 one.1.0 late in (
+        node_apt a (sided (left_of u) s) is.2 front h early,
+        node_apt e w is.4 behind one.1.0 late,
+        copies_apt u a e (sided (left_of u) s) w v.state.rooms front behind
+            (λ z. infix_there t.state.at o s.at (pos_in a) (assign None) t.sort v.sort v.state one.0 other.0 (subst (λ y. IsClean (typed_infix t.state.at o s.at (pos_in a) y t.sort v.sort v.state).state) z c)),
+      )
   form_apt p o (choose a e g) s is m h c =
       let t = type_node a s in
       let v = type_node e (step t.state) in

@@ -1,4 +1,5 @@
 mod Apt
+mod Copies
 mod Orders
 mod AptNodes
 mod AptDecls

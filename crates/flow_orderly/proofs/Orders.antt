@@ -83,7 +83,7 @@ mutual
   form_orderly r n (suffix a (field dot x q)) h g = (orderly Read a h g.0, g.1)
   form_orderly r n (suffix a (field arrow x q)) h g = orderly Read a h g.0
   form_orderly r n (suffix a (behind u)) h g = (orderly Changed a h g, changed_scalar a h g)
-  form_orderly r n (two (assign None) a b) h g = (orderly Written a h.0 g.0, written_place a h.0 g.0, orderly Read b h.1 g.1)
+  form_orderly r n (two (assign None) a b) h g = (orderly Written a h.0 g.0, written_place a h.0 g.0, orderly _ b h.1 g.1, g.2)
   form_orderly r n (two (assign (Some u)) a b) h g = (orderly Changed a h.0 g.0, changed_scalar a h.0 g.0, orderly Read b h.1 g.1)
   form_orderly r n (two (plain u) a b) h g = (orderly Read a h.0 g.0, orderly Read b h.1 g.1)
   form_orderly r n (two and a b) h g = (orderly Read a h.0 g.0, orderly Read b h.1 g.1)

@@ -2,6 +2,7 @@ pub mod Bound
 pub mod Good
 pub mod Safe
 pub mod Parts
+pub mod Copied
 pub mod Nodes
 pub mod Declarations
 pub mod Flows

@@ -19,10 +19,10 @@ use Rattle.c_tables.specs.Tables.{FunctionShape}
 use Rattle.c_tables.specs.Rows.{row}
 use Rattle.c_walk.specs.declared.around.Around.{Around}
 use Rattle.c_walk.specs.declared.around.Taken.{Taken}
-use Rattle.c_walk.specs.declared.around.Taken.TheVariants.{Read, Written, Changed, Addressed}
-use Rattle.c_walk.specs.Places.{has_scalar}
+use Rattle.c_walk.specs.declared.around.Taken.TheVariants.{Read, Written, Changed, Copied, Addressed}
+use Rattle.c_walk.specs.Places.{has_scalar, holds_structure}
 use Rattle.c_walk.specs.Tests.{is_logical_form}
-use Rattle.c_walk.specs.Walked.{Walked, with_block, pos_of, next_decision, inside_test, with_test, with_site}
+use Rattle.c_walk.specs.Walked.{Walked, right_taken, with_block, pos_of, next_decision, inside_test, with_test, with_site}
 use Rattle.c_walk.specs.Counted.{next_def, next_use}
 use Rattle.c_walk.specs.Walking.{walk_node, walk_test, walk_arm}
 use Rattle.c_meaning.specs.State.{tells, Bound, Call, State, activation, did, found_in, found_within, or_else}
@@ -34,13 +34,14 @@ use Rattle.c_meaning.specs.Places.{room, whole, first_cell, variable_place, mark
 use Rattle.c_meaning.specs.Constants.{type_at, kind_noted}
 use Rattle.c_meaning.specs.Knot.{Knot}
 use Rattle.c_meaning.specs.Builtins.{built_in, called, called_row, params_of}
-use Rattle.c_meaning.specs.Expressions.{gives, operand, number_value, literal_value, noted_value, cast_value, tested, arm, last_test, written, stepped_from, step_value, meaning, form_meaning, arguments}
+use Rattle.c_meaning.specs.Expressions.{gives, operand, number_value, literal_value, noted_value, cast_value, tested, arm, last_test, written, assigned, stepped_from, step_value, meaning, form_meaning, arguments}
 use Rattle.c_meaning.specs.Calls.{Source}
 use Rattle.flow_misses.specs.Placing.{Local, Sites}
 use Rattle.flow_misses.proofs.Lists.{some_not, some_is, or_some}
-use Rattle.flow_places.specs.Sited.{variable_named, form_names, IsUse, IsDefinition, IsReadSite, IsUsedSite, IsDefinedSite, IsSited, IsFormSited, IsTestSited, IsArmSited, AreSited}
+use Rattle.flow_places.specs.Sited.{variable_named, form_names, IsUse, IsDefinition, IsReadSite, IsUsedSite, IsDefinedSite, IsUntold, IsSited, IsFormSited, IsTestSited, IsArmSited, AreSited}
 use Rattle.flow_places.proofs.Good.{Good, test_quiet}
 use Rattle.flow_places.proofs.Safe.{Any, GoodAt, Safe, safe_gives, safe_stops, safe_then, safe_turn, safe_if, safe_settled, safe_needed, safe_did, ForUse, ForDef}
+use Rattle.flow_places.proofs.Copied.{copied_safe}
 use Rattle.flow_places.proofs.Parts.{block_safe, loaded_safe, stored_safe, fetched_safe, variable_safe, field_safe, built_in_safe}
 
 module _ (S : Sites) (F : List Bound) where
@@ -266,12 +267,20 @@ module _ (S : Sites) (F : List Bound) where
         safe_then S F n v _ _ Any Any (safe_settled S F n (stepped_by_one u (operand a) x) v Any (λ q e. tt)) (λ y r g z.
         safe_then S F n r _ _ Any Any (written_safe n (type_at a) (marks def a) c w q y r (subst (ForDef S F d q) (sym (g ∙ h ∙ e)) k.1)) (λ y r g z. stepped_safe n f x y r)))))
 
-    assign_safe : (c : Around) (p : Pos) (y : NoteShape) (a b : NodeShape) (w : Walked) → Places c Written a w → IsDefinedSite S F a w → Values c b (walk_node c Written a w) → (n : ℕ) (s : State) → Safe S F n s ((form_meaning P.tables kn p y (two (assign None) a b)).value (heard c w) s) Any
-    assign_safe c p y a b w pa hd vb n s =
+    -- a structure's place that is copied, or a value that is written
+    assigned_safe : (z : Bool) (c : Around) (a b : NodeShape) (w : Walked) → Places c (if z then Copied else Read) b (walk_node c Written a w) → (z ≡ false → Values c b (walk_node c Written a w)) → (z ≡ true → IsUntold S F w (walk_node c Written a w)) → (n : ℕ) (q : Pointer) (s : State)
+        → ForDef S F (S.defined (next_def w)) q s.calls → Safe S F n s (assigned z (type_at a) (marks def a) (marks used b) (meaning P.tables kn b) (heard c w) (heard c (walk_node c Written a w)) q s) Any
+    assigned_safe true c a b w pb vb hu n q s k = let h = hu refl in
+        safe_then S F n s _ _ Any Any (pb n s) (λ r t e z. copied_safe S F n (marks def a) (marks used b) c w (walk_node c Written a w) q r t h.0 h.1)
+    assigned_safe false c a b w pb vb hu n q s k =
+        safe_then S F n s _ _ Any Any (wanted c b (walk_node c Written a w) (vb refl) n s) (λ v r h z. written_safe n (type_at a) (marks def a) c w q v r (subst (ForDef S F (S.defined (next_def w)) q) (sym h) k))
+
+    assign_safe : (c : Around) (p : Pos) (y : NoteShape) (a b : NodeShape) (w : Walked) → Places c Written a w → IsDefinedSite S F a w → Places c (right_taken None a) b (walk_node c Written a w) → (holds_structure a ≡ false → Values c b (walk_node c Written a w)) → (holds_structure a ≡ true → IsUntold S F w (walk_node c Written a w)) → (n : ℕ) (s : State) → Safe S F n s ((form_meaning P.tables kn p y (two (assign None) a b)).value (heard c w) s) Any
+    assign_safe c p y a b w pa hd pb vb hu n s =
         let d = S.defined (next_def w) in
         safe_turn S F n s _ Any (λ s e.
         safe_then S F n s _ _ (ForDef S F d) Any (def_place a d hd Written (heard c w) n s (pa n s)) (λ q t e k.
-        safe_then S F n t _ _ Any Any (wanted c b (walk_node c Written a w) vb n t) (λ v r h z. written_safe n (type_at a) (marks def a) c w q v r (subst (ForDef S F d q) (sym (h ∙ e)) k))))
+        assigned_safe (holds_structure a) c a b w pb vb hu n q t (subst (ForDef S F d q) (sym e) k)))
 
     change_safe : (u : BinaryOp) (c : Around) (p : Pos) (y : NoteShape) (a b : NodeShape) (w : Walked) → Places c Changed a w → IsUsedSite S F a w → IsDefinedSite S F a w → Values c b (walk_node c Changed a w) → (n : ℕ) (s : State)
         → Safe S F n s ((form_meaning P.tables kn p y (two (assign (Some u)) a b)).value (heard c w) s) Any
@@ -340,7 +349,9 @@ module _ (S : Sites) (F : List Bound) where
         form_safe c p y (suffix a (field dot x q)) w g n s = fetch p y (suffix a (field dot x q)) c w g.0 n s (dot_safe Read p q y a x c w (place_safe c Read a _ g.1) n s)
         form_safe c p y (suffix a (field arrow x q)) w g n s = fetch p y (suffix a (field arrow x q)) c w g.0 n s (arrow_safe Read p q y a x c w (value_safe c a _ g.1) n s)
         form_safe c p y (suffix a (behind u)) w g n s = step_safe false u c a w (place_safe c Changed a w g.0) g.1 g.2 n s
-        form_safe c p y (two (assign None) a b) w g n s = assign_safe c p y a b w (place_safe c Written a w g.0) g.1 (value_safe c b _ g.2) n s
+        form_safe c p y (two (assign None) a b) w g n s =
+            let v = walk_node c Written a w in
+            assign_safe c p y a b w (place_safe c Written a w g.0) g.1 (place_safe c (right_taken None a) b v g.2) (λ e. value_safe c b v (subst (λ z. IsSited S F c (if z then Copied else Read) b v) e g.2)) g.3 n s
         form_safe c p y (two (assign (Some u)) a b) w g n s = change_safe u c p y a b w (place_safe c Changed a w g.0) g.1 g.2 (value_safe c b _ g.3) n s
         form_safe c p y (two (plain u) a b) w g n s = plain_safe u c p y a b w (value_safe c a w g.0) (value_safe c b _ g.1) n s
         form_safe c p y (two and a b) w g n s = and_safe c p y a b w (test_safe c a w g.0) (test_safe c b _ g.1) n s

@@ -47,7 +47,7 @@ module _ (S : Sites) (F : List Bound) where
 
   -- ---- reading and writing
 
-  use_still : (q : Pointer) (m : ℕ) (s : State) → Still S F s (log_use q m s)
+  pub use_still : (q : Pointer) (m : ℕ) (s : State) → Still S F s (log_use q m s)
   use_still q m s = record { deeds = refl; calls = refl; count = omega arith; last = refl; file = refl }
 
   pub def_still : (q : Pointer) (m : ℕ) (s : State) → Still S F s (log_def q m s)
@@ -62,7 +62,7 @@ module _ (S : Sites) (F : List Bound) where
   SameCount m (Ok c) = c.count ≡ m
   SameCount m (Err why) = Unit {0}
 
-  if_count : (m : ℕ) (b : Bool) (c : Cells) (why : Fault) → c.count ≡ m → SameCount m (if b then Ok c else Err why)
+  pub if_count : (m : ℕ) (b : Bool) (c : Cells) (why : Fault) → c.count ≡ m → SameCount m (if b then Ok c else Err why)
   if_count m true c why e = e
   if_count m false c why e = tt
 

@@ -5,8 +5,9 @@ use Rattle.c_base.specs.declared.place.Pos.{Pos}
 use Rattle.c_syntax.specs.Shape.{NoteShape, typed, name, unary, before, size_of, plain, and, or, assign, comma, NodeShape, node, ExprShape, leaf, paren, call, prefix, size_of_type, cast, suffix, two, choose, probe, index, field, behind, NodeShapes, no_nodes, more_nodes, MaybeNode, no_node, one_node}
 use Rattle.c_walk.specs.declared.around.Around.{Around}
 use Rattle.c_walk.specs.declared.around.Taken.{Taken}
-use Rattle.c_walk.specs.declared.around.Taken.TheVariants.{Read, Changed}
-use Rattle.c_walk.specs.Walked.{Walked, operand_taken, left_taken, with_block, pos_of, inside_test, with_test, with_site}
+use Rattle.c_walk.specs.declared.around.Taken.TheVariants.{Read, Changed, Written}
+use Rattle.c_walk.specs.Places.{holds_structure}
+use Rattle.c_walk.specs.Walked.{Walked, operand_taken, right_taken, with_block, pos_of, inside_test, with_test, with_site}
 use Rattle.c_walk.specs.Counted.{next_def, next_use}
 use Rattle.c_walk.specs.Walking.{walk_node, walk_test, walk_arm}
 use Rattle.c_meaning.specs.State.{Bound, found_in}
@@ -57,6 +58,10 @@ module _ (S : Sites) (F : List Bound) where
   abbrev pub IsDefinedSite : NodeShape → Walked → Type 0
   IsDefinedSite a w = IsDefinition S F (variable_named a) (S.defined (next_def w))
 
+  -- of neither the definition nor the use of a copy anything is told
+  abbrev pub IsUntold : Walked → Walked → Type 0
+  IsUntold w v = (S.used (next_use v) ≡ None) × (S.defined (next_def w) ≡ None)
+
   -- each site of an expression, behind what was walked through
   abbrev mutual
     pub IsSited : Around → Taken → NodeShape → Walked → Type 0
@@ -81,7 +86,9 @@ module _ (S : Sites) (F : List Bound) where
     IsFormSited c r p n (two comma a b) w = IsSited c Read a w × IsSited c Read b (walk_node c Read a w)
     IsFormSited c r p n (two and a b) w = IsTestSited c a w × IsTestSited c b (with_block (pos_of b) (walk_test c a w))
     IsFormSited c r p n (two or a b) w = IsTestSited c a w × IsTestSited c b (with_block (pos_of b) (walk_test c a w))
-    IsFormSited c r p n (two (assign None) a b) w = IsSited c (left_taken None) a w × IsDefinedSite a w × IsSited c Read b (walk_node c (left_taken None) a w)
+    IsFormSited c r p n (two (assign None) a b) w =
+        let v = walk_node c Written a w in
+        IsSited c Written a w × IsDefinedSite a w × IsSited c (right_taken None a) b v × (holds_structure a ≡ true → IsUntold w v)
     IsFormSited c r p n (two (assign (Some u)) a b) w = IsSited c Changed a w × IsUsedSite a w × IsDefinedSite a w × IsSited c Read b (walk_node c Changed a w)
     IsFormSited c r p n (choose a b d) w = IsTestSited c a w × IsArmSited c b (walk_test c a w) × IsArmSited c d (walk_arm c b (walk_test c a w))
 

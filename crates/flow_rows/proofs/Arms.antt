@@ -11,11 +11,11 @@ use Rattle.c_syntax.specs.View.{step_shape}
 use Rattle.c_tables.specs.Tables.{TablesShape}
 use Rattle.c_walk.specs.declared.around.Around.{Around}
 use Rattle.c_walk.specs.declared.around.Taken.{Taken}
-use Rattle.c_walk.specs.declared.around.Taken.TheVariants.{Read, Written, Changed, Addressed}
+use Rattle.c_walk.specs.declared.around.Taken.TheVariants.{Read, Written, Changed, Copied, Addressed}
 use Rattle.c_walk.specs.Items.{both}
 use Rattle.c_walk.specs.Places.{is_place}
 use Rattle.c_walk.specs.Tests.{outcomes_of_form}
-use Rattle.c_walk.specs.Walked.{Walked, operand_taken, left_taken, with_site}
+use Rattle.c_walk.specs.Walked.{Walked, operand_taken, left_taken, right_taken, with_site}
 use Rattle.c_walk.specs.Walking.{walk_node, walk_form, walk_test, walk_arm, walk_nodes}
 use Rattle.c_walk.specs.Counted.{next_use}
 use Rattle.flow_walks.specs.declared.action.Action.TheVariants.{Use}
@@ -40,6 +40,7 @@ not_read : (r : Taken) (x : NoteShape) (f : ExprShape) → is_place f ≡ false 
 not_read Read x f e = rw e refl
 not_read Written x f e = refl
 not_read Changed x f e = refl
+not_read Copied x f e = rw e refl
 not_read Addressed x f e = refl
 
 -- a form is laid
@@ -161,14 +162,15 @@ module _ (t : TablesShape) (r : Taken) (p : Pos) (x : NoteShape) (f : ExprShape)
   pub comma_arm : (g h i : Graph) (y : ℕ) (a b : NodeShape) → f ≡ two comma a b → Grown g h → Out h y → PairPlaced h i n a b y → Formed g i f
   comma_arm g h i y a b is gh out part = subst (Formed g i) (sym is) (pair_out g h i y a b gh out part)
 
-  abbrev Assigned : Taken → Around → NodeShape → NodeShape → Walked → Comes → Comes
-  Assigned s c a b w j = node_goes t c s a w (value (changed_at s a w (node_goes t c Read b (walk_node c s a w) (value j))))
+  abbrev Assigned : Taken → Taken → Around → NodeShape → NodeShape → Walked → Comes → Comes
+  Assigned s z c a b w j = node_goes t c s a w (value (changed_at s a w (node_goes t c z b (walk_node c s a w) (value j))))
 
-  pub assign_arm : (g h i : Graph) (y : ℕ) (q : Option BinaryOp) (s : Taken) (a b : NodeShape) → f ≡ two (assign q) a b → s ≡ left_taken q → Grown g h → ((w : Walked) → counts w ≡ n → LedAt h y (λ k. defined_at a w (evaluated both (ways k to)))) → Placed h i n m at (λ c w k. Assigned s c a b w (k y)) (λ c w. walk_node c Read b (walk_node c s a w)) → Formed g i f
-  assign_arm g h i y q s a b is same gh out part =
-      subst (Formed g i) (sym is) (subst (λ s. Placed g i n m at (λ c w k. Assigned s c a b w (defined_at a w (evaluated both (ways k to)))) (λ c w. walk_node c Read b (walk_node c s a w))) same
-      (part_placed g h i n y (λ c w j. Assigned s c a b w j) (λ w k. defined_at a w (evaluated both (ways k to))) (λ c w. w) (λ c w. walk_node c Read b (walk_node c s a w))
-      (λ c w j k u. value_in t c s a w _ _ (changed_in s a w _ _ (value_in t c Read b (walk_node c s a w) j k u))) gh out (λ c w e. e) part))
+  pub assign_arm : (g h i : Graph) (y : ℕ) (q : Option BinaryOp) (s z : Taken) (a b : NodeShape) → f ≡ two (assign q) a b → s ≡ left_taken q → z ≡ right_taken q a → Grown g h → ((w : Walked) → counts w ≡ n → LedAt h y (λ k. defined_at a w (evaluated both (ways k to)))) → Placed h i n m at (λ c w k. Assigned s z c a b w (k y)) (λ c w. walk_node c z b (walk_node c s a w)) → Formed g i f
+  assign_arm g h i y q s z a b is left right gh out part =
+      subst (Formed g i) (sym is) (subst (λ z. Placed g i n m at (λ c w k. Assigned (left_taken q) z c a b w (defined_at a w (evaluated both (ways k to)))) (λ c w. walk_node c z b (walk_node c (left_taken q) a w))) right
+      (subst (λ s. Placed g i n m at (λ c w k. Assigned s z c a b w (defined_at a w (evaluated both (ways k to)))) (λ c w. walk_node c z b (walk_node c s a w))) left
+      (part_placed g h i n y (λ c w j. Assigned s z c a b w j) (λ w k. defined_at a w (evaluated both (ways k to))) (λ c w. w) (λ c w. walk_node c z b (walk_node c s a w))
+      (λ c w j k u. value_in t c s a w _ _ (changed_in s a w _ _ (value_in t c z b (walk_node c s a w) j k u))) gh out (λ c w e. e) part)))
 
   pub call_arm : (g h i : Graph) (y : ℕ) (z : Text) (args : NodeShapes) → f ≡ call z args → Grown g h → LedAt h y (λ k. entered t x (evaluated both (ways k to))) → Placed h i n m at (λ c w k. nodes_go t c args w (k y)) (λ c w. walk_nodes c args w) → Formed g i f
   call_arm g h i y z args is gh out part =

@@ -111,12 +111,12 @@ module _ (t : TablesShape) where
   pair_placed g h i j n l m at z y a b gh first second =
       grown_placed n g h j m at _ _ gh (then_placed n h i j l m at z (λ c w k v. node_goes t c Read a w (value v)) (λ c w k. node_goes t c Read b w (value (k y))) (λ c w. walk_node c Read a w) (λ c w. walk_node c Read b w) (λ c w k u v q. value_in t c Read a w u v q) first second)
 
-  pub assign_placed : (g h i j o : Graph) (n l m : Numbers) (at z u y : ℕ) (s : Taken) (a b : NodeShape) → Grown g h → Grown h i → ((w : Walked) → counts w ≡ n → LedAt i u (λ k. changed_at s a w (k z)))
-      → Placed i j n l at (λ c w k. node_goes t c s a w (value (k u))) (λ c w. walk_node c s a w) → Placed j o l m z (λ c w k. node_goes t c Read b w (value (k y))) (λ c w. walk_node c Read b w)
-      → Placed g o n m at (λ c w k. node_goes t c s a w (value (changed_at s a w (node_goes t c Read b (walk_node c s a w) (value (k y)))))) (λ c w. walk_node c Read b (walk_node c s a w))
-  assign_placed g h i j o n l m at z u y s a b gh hi led first second =
+  pub assign_placed : (g h i j o : Graph) (n l m : Numbers) (at z u y : ℕ) (s r : Taken) (a b : NodeShape) → Grown g h → Grown h i → ((w : Walked) → counts w ≡ n → LedAt i u (λ k. changed_at s a w (k z)))
+      → Placed i j n l at (λ c w k. node_goes t c s a w (value (k u))) (λ c w. walk_node c s a w) → Placed j o l m z (λ c w k. node_goes t c r b w (value (k y))) (λ c w. walk_node c r b w)
+      → Placed g o n m at (λ c w k. node_goes t c s a w (value (changed_at s a w (node_goes t c r b (walk_node c s a w) (value (k y)))))) (λ c w. walk_node c r b (walk_node c s a w))
+  assign_placed g h i j o n l m at z u y s r a b gh hi led first second =
       let left = lead_placed n g i j l at u (λ c w k v. node_goes t c s a w (value v)) (λ w k. changed_at s a w (k z)) (λ c w. walk_node c s a w) (λ c w k v v' q. value_in t c s a w v v' q) (grown_then g h i gh hi) led first in
-      then_placed n g j o l m at z (λ c w k v. node_goes t c s a w (value (changed_at s a w v))) (λ c w k. node_goes t c Read b w (value (k y))) (λ c w. walk_node c s a w) (λ c w. walk_node c Read b w)
+      then_placed n g j o l m at z (λ c w k v. node_goes t c s a w (value (changed_at s a w v))) (λ c w k. node_goes t c r b w (value (k y))) (λ c w. walk_node c s a w) (λ c w. walk_node c r b w)
       (λ c w k v v' q. value_in t c s a w _ _ (changed_in s a w v v' q)) left second
 
   pub choice_placed : (g h i j o q : Graph) (n l l' m : Numbers) (at z z' y : ℕ) (a b d : NodeShape) → Grown g h → Grown h i

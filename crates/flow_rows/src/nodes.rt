@@ -7,7 +7,7 @@ ghost use Rattle.c_tables.specs.Tables.{tables_shape};
 ghost use Rattle.c_walk.specs.declared.around.Taken.TheVariants.{Read};
 ghost use Rattle.c_walk.specs.Items.{both};
 ghost use Rattle.c_walk.specs.Tests.{outcomes_of_form};
-ghost use Rattle.c_walk.specs.Walked.{operand_taken, left_taken, with_site};
+ghost use Rattle.c_walk.specs.Walked.{with_site};
 ghost use Rattle.c_walk.specs.Walking.{walk_node, walk_test, walk_arm, walk_nodes, walk_loop_test};
 ghost use Rattle.flow_walks.specs.Comes.{value, evaluated};
 ghost use Rattle.flow_walks.specs.Expressions.{read_form, changed_at, node_goes, test_goes, arm_goes, nodes_go, loop_test_goes};
@@ -19,10 +19,11 @@ use crate::leaving::{leave, leave_with, no_of, yes_of};
 use crate::sites::{changed_row, defined_out, entered_out, read_out, stepped_out};
 use crate::targets::To;
 use c_base::place::NoMemory;
-use c_syntax::tree::{BinaryOp, Expr, Node, UnaryOp};
+use c_syntax::tree::{Expr, Node};
 use c_tables::tables::Tables;
 use c_walk::around::Taken;
 use c_walk::items::Outcomes;
+use c_walk::taken::{left_taken, operand_taken, right_taken};
 use c_walk::tests::outcomes;
 use flow_walks::action::Action;
 
@@ -171,11 +172,12 @@ pub fn lay_node(
         }
         Expr::Assign(op, a, b) => {
             let left = left_taken(*op);
+            let right = right_taken(*op, a);
             let behind = defined_out(&mut out.rows, out.numbers, a, to)?;
             let second = out.rows.hole()?;
             let changed = changed_row(&mut out.rows, out.numbers, left, a, second)?;
             lay_node(out, tables, left, a, at, To::Value(changed))?;
-            lay_node(out, tables, Taken::Read, b, second, To::Value(behind))?;
+            lay_node(out, tables, right, b, second, To::Value(behind))?;
             Ok(())
         }
     }
@@ -265,22 +267,4 @@ fn lay_nodes(
     }
     out.rows.fill(entry, Action::Nothing, to)?;
     Ok(())
-}
-
-fn operand_taken(op: UnaryOp) -> Taken
-    ensures { result ≡ operand_taken op }
-{
-    match op {
-        UnaryOp::AddressOf => Taken::Addressed,
-        _ => Taken::Read,
-    }
-}
-
-fn left_taken(op: Option<BinaryOp>) -> Taken
-    ensures { result ≡ left_taken op }
-{
-    match op {
-        None => Taken::Written,
-        Some(_) => Taken::Changed,
-    }
 }

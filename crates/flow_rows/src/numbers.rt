@@ -5,8 +5,7 @@ ghost use Rattle.c_base.specs.declared.place.Pos.{Pos};
 ghost use Rattle.c_syntax.specs.View.{note_shape, expr_shape};
 ghost use Rattle.c_walk.specs.Items.{Outcomes, Direct};
 ghost use Rattle.c_walk.specs.Units.{no_items};
-ghost use Rattle.c_walk.specs.Places.{has_scalar};
-ghost use Rattle.c_walk.specs.Walked.{Walked, next_decision, is_read, is_written, with_block, with_block_if, with_decision, with_test, with_def, with_use, with_site};
+ghost use Rattle.c_walk.specs.Walked.{Walked, next_decision, is_used, is_written, with_block, with_block_if, with_decision, with_test, with_def, with_use, with_site};
 ghost use Rattle.c_walk.specs.Counted.{next_block, next_def, next_use};
 ghost use Rattle.c_walk.specs.Stating.{with_variable};
 ghost use Rattle.flow_rows.specs.Counts.{counts, Counted};
@@ -14,7 +13,8 @@ ghost use Rattle.flow_rows.specs.Counts.{counts, Counted};
 use c_base::place::NoMemory;
 use c_syntax::tree::Node;
 use c_walk::around::Taken;
-use c_walk::places::{has_scalar, is_place};
+use c_walk::places::is_place;
+use c_walk::taken::{is_used, is_written};
 use c_walk::tests::is_logical;
 
 /// How many blocks, decisions, definitions and uses have their numbers, and how many variables.
@@ -177,23 +177,4 @@ fn next_variable(number: u32) -> Result<u32, NoMemory>
         Some(number) => Ok(number),
         None => Err(NoMemory),
     }
-}
-
-fn is_written(taken: Taken) -> bool
-    ensures { result ≡ is_written taken }
-{
-    matches!(taken, Taken::Written | Taken::Changed)
-}
-
-fn is_read(taken: Taken) -> bool
-    ensures { result ≡ is_read taken }
-{
-    matches!(taken, Taken::Read | Taken::Changed)
-}
-
-// Whether a place counts as a use: it is a scalar, and read.
-fn is_used(taken: Taken, node: &Node) -> bool
-    ensures { result ≡ (if is_read taken then has_scalar (note_shape node.now.note) else false) }
-{
-    is_read(taken) && has_scalar(&node.note)
 }

@@ -22,7 +22,7 @@ use c_base::place::NoMemory;
 use c_syntax::tree::{Expr, Node, Note};
 use c_tables::tables::Tables;
 use c_walk::around::Taken;
-use c_walk::places::{has_scalar, is_place};
+use c_walk::places::{has_scalar, has_structure, is_place};
 use flow_walks::action::Action;
 
 // ---- what is met
@@ -55,6 +55,7 @@ pub fn reads(taken: Taken, node: &Node) -> bool
 {
     match taken {
         Taken::Read => is_place(&node.form) && has_scalar(&node.note),
+        Taken::Copied => is_place(&node.form) && has_structure(&node.note),
         Taken::Written => false,
         Taken::Changed => false,
         Taken::Addressed => false,
@@ -145,6 +146,7 @@ pub fn changed_row(
             Ok(at)
         }
         Taken::Read => Ok(to),
+        Taken::Copied => Ok(to),
         Taken::Written => Ok(to),
         Taken::Addressed => Ok(to),
     }

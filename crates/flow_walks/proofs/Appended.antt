@@ -7,13 +7,13 @@ use Rattle.c_syntax.specs.Shape.{NoteShape, unary, before, size_of, plain, and, 
 use Rattle.c_tables.specs.Tables.{TablesShape}
 use Rattle.c_tables.specs.Rows.{first_place, name_pos, text_of}
 use Rattle.c_walk.specs.Items.{Direct, Outcomes, cases, Item, block, decision, def, used}
-use Rattle.c_walk.specs.Places.{is_place, has_scalar, direct_form}
+use Rattle.c_walk.specs.Places.{is_place, direct_form}
 use Rattle.c_walk.specs.declared.around.Around.{Around}
 use Rattle.c_walk.specs.declared.around.Taken.{Taken}
 use Rattle.c_walk.specs.declared.around.Taken.TheVariants.{Read, Changed}
 use Rattle.c_walk.specs.Tests.{is_logical_form, outcomes_of_form, choosing, case_values}
 use Rattle.c_walk.specs.Counted.{def_count}
-use Rattle.c_walk.specs.Walked.{Walked, operand_taken, left_taken, is_read, is_written, with_block, with_block_if, with_decision, with_test, with_def, with_use, with_sites, with_site, inside, inside_test, pos_of}
+use Rattle.c_walk.specs.Walked.{Walked, operand_taken, left_taken, right_taken, is_used, is_written, with_block, with_block_if, with_decision, with_test, with_def, with_use, with_sites, with_site, inside, inside_test, pos_of}
 use Rattle.c_walk.specs.Walking.{walk_node, walk_form, walk_test, walk_arm, walk_nodes, walk_maybe, walk_loop_test, walk_maybe_test, walk_step}
 use Rattle.c_walk.specs.Stating.{whole, with_variable, with_whole_def, walk_init, walk_maybe_init, walk_declarator, walk_declarators, walk_decl, walk_decls, pos_of_stmt, splits, is_labelled, walk_choice, walk_stmt, walk_body, walk_part, walk_compound, walk_items}
 use Rattle.c_walk.specs.Units.{define_declarator, define_declarators, define_decl, define_decls, define_parameters, function_of, in_function, walk_function, walk_external, walk_externals}
@@ -92,13 +92,13 @@ use_adds true c p d s = record { more = used p c.function d c.owner ∷ []; item
 use_adds false c p d s = adds_none c.function s
 
 pub sites_adds : (c : Around) (r : Taken) (p : Pos) (d : Option Direct) (scalar : Bool) (s : Walked) → Adds c.function s (with_sites c r p d scalar s)
-sites_adds c r p d scalar s = adds_on (def_adds (is_written r) c p d s) (use_adds (if is_read r then scalar else false) c p d (with_def (is_written r) c p d s))
+sites_adds c r p d value s = adds_on (def_adds (is_written r) c p d s) (use_adds value c p d (with_def (is_written r) c p d s))
 
 pub site_adds : (c : Around) (r : Taken) (p : Pos) (n : NoteShape) (f : ExprShape) (s : Walked) → Adds c.function s (with_site c r p n f s)
 site_adds c r p n f s = by (is_place f)
   where
-    by : (b : Bool) → Adds c.function s (if b then with_sites c r p (direct_form n f) (has_scalar n) s else s)
-    by true = sites_adds c r p (direct_form n f) (has_scalar n) s
+    by : (b : Bool) → Adds c.function s (if b then with_sites c r p (direct_form n f) (is_used r n) s else s)
+    by true = sites_adds c r p (direct_form n f) (is_used r n) s
     by false = adds_none c.function s
 
 same_function : (c : Around) (f : ExprShape) (s : Walked) → (inside_test c f s).function ≡ c.function
@@ -128,7 +128,7 @@ mutual
   form_adds c r (suffix a (behind u)) s = node_adds c Changed a s
   form_adds c r (two and a b) s = let j = walk_test c a s in adds_on (test_adds c a s) (adds_on (block_adds c.function (pos_of b) j) (test_adds c b (with_block (pos_of b) j)))
   form_adds c r (two or a b) s = let j = walk_test c a s in adds_on (test_adds c a s) (adds_on (block_adds c.function (pos_of b) j) (test_adds c b (with_block (pos_of b) j)))
-  form_adds c r (two (assign u) a b) s = adds_on (node_adds c (left_taken u) a s) (node_adds c Read b (walk_node c (left_taken u) a s))
+  form_adds c r (two (assign u) a b) s = adds_on (node_adds c (left_taken u) a s) (node_adds c (right_taken u a) b (walk_node c (left_taken u) a s))
   form_adds c r (two (plain u) a b) s = adds_on (node_adds c Read a s) (node_adds c Read b (walk_node c Read a s))
   form_adds c r (two comma a b) s = adds_on (node_adds c Read a s) (node_adds c Read b (walk_node c Read a s))
   form_adds c r (choose a b d) s = let j = walk_test c a s in adds_on (test_adds c a s) (adds_on (arm_adds c b j) (arm_adds c d (walk_arm c b j)))

@@ -6,9 +6,9 @@ use Rattle.c_syntax.specs.Shape.{NoteShape, bare, known, typed, unary, before, s
 use Rattle.c_tables.specs.Tables.{TablesShape}
 use Rattle.c_walk.specs.declared.around.Around.{Around}
 use Rattle.c_walk.specs.declared.around.Taken.{Taken}
-use Rattle.c_walk.specs.declared.around.Taken.TheVariants.{Read, Written, Changed, Addressed}
+use Rattle.c_walk.specs.declared.around.Taken.TheVariants.{Read, Written, Changed, Copied, Addressed}
 use Rattle.c_walk.specs.Items.{Outcomes, both, only_true, only_false, cases}
-use Rattle.c_walk.specs.Walked.{Walked, operand_taken, left_taken, with_block, next_decision, inside, inside_test, with_test, with_site}
+use Rattle.c_walk.specs.Walked.{Walked, operand_taken, left_taken, right_taken, with_block, next_decision, inside, inside_test, with_test, with_site}
 use Rattle.c_walk.specs.Walking.{walk_node, walk_maybe, walk_maybe_test, walk_step}
 use Rattle.c_walk.specs.Stating.{with_variable, walk_declarator, walk_decl, splits, case_count, has_default, walk_part}
 use Rattle.c_walk.specs.Counted.{next_use, next_def}
@@ -80,6 +80,7 @@ pub changed_in : (r : Taken) (a : NodeShape) (s : Walked) (j k : Comes) → In j
 changed_in Changed a s j k h = emit_if_in _ _ j k h
 changed_in Read a s j k h = h
 changed_in Written a s j k h = h
+changed_in Copied a s j k h = h
 changed_in Addressed a s j k h = h
 
 pub entered_in : (t : TablesShape) (n : NoteShape) (j k : Comes) → In j k → In (entered t n j) (entered t n k)
@@ -113,7 +114,7 @@ module _ (t : TablesShape) where
     form_in c r p n (two and a b) s M N u = test_in c a s _ _ _ _ (emit_in _ _ _ (test_in c b _ _ _ _ _ u.true_in u.false_in)) u.false_in
     form_in c r p n (two or a b) s M N u = test_in c a s _ _ _ _ u.true_in (emit_in _ _ _ (test_in c b _ _ _ _ _ u.true_in u.false_in))
     form_in c r p n (two (assign q) a b) s M N u =
-        value_in c (left_taken q) a s _ _ (changed_in (left_taken q) a s _ _ (value_in c Read b (walk_node c (left_taken q) a s) _ _ (emit_if_in _ _ _ _ (u.evaluated_in both))))
+        value_in c (left_taken q) a s _ _ (changed_in (left_taken q) a s _ _ (value_in c (right_taken q a) b (walk_node c (left_taken q) a s) _ _ (emit_if_in _ _ _ _ (u.evaluated_in both))))
     form_in c r p n (choose a b d) s M N u = test_in c a s _ _ _ _ (arm_in c b _ _ _ (u.evaluated_in both)) (arm_in c d _ _ _ (u.evaluated_in both))
 
     pub value_in : (c : Around) (r : Taken) (a : NodeShape) (s : Walked) (j k : Comes) → In j k → In (node_goes t c r a s (value j)) (node_goes t c r a s (value k))

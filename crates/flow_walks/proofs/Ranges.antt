@@ -9,13 +9,13 @@ use Rattle.c_syntax.specs.Shape.{NoteShape, bare, known, typed, unary, before, s
 use Rattle.c_tables.specs.Tables.{TablesShape}
 use Rattle.c_tables.specs.Rows.{row, first_place, name_pos, text_of}
 use Rattle.c_walk.specs.Items.{Direct, Outcomes, both, only_true, only_false, cases, def}
-use Rattle.c_walk.specs.Places.{is_place, has_scalar, direct_form}
+use Rattle.c_walk.specs.Places.{is_place, direct_form}
 use Rattle.c_walk.specs.declared.around.Around.{Around}
 use Rattle.c_walk.specs.declared.around.Taken.{Taken}
-use Rattle.c_walk.specs.declared.around.Taken.TheVariants.{Read, Written, Changed, Addressed}
+use Rattle.c_walk.specs.declared.around.Taken.TheVariants.{Read, Written, Changed, Copied, Addressed}
 use Rattle.c_walk.specs.Tests.{choosing, case_values}
 use Rattle.c_walk.specs.Counted.{def_count, next_def, next_use}
-use Rattle.c_walk.specs.Walked.{Walked, operand_taken, left_taken, is_read, is_written, with_block, with_block_if, with_decision, with_test, with_def, with_sites, with_site, next_decision, inside, inside_test, pos_of}
+use Rattle.c_walk.specs.Walked.{Walked, operand_taken, left_taken, right_taken, is_used, is_written, with_block, with_block_if, with_decision, with_test, with_def, with_sites, with_site, next_decision, inside, inside_test, pos_of}
 use Rattle.c_walk.specs.Walking.{walk_node, walk_form, walk_test, walk_arm, walk_nodes, walk_maybe, walk_loop_test, walk_maybe_test, walk_step}
 use Rattle.c_walk.specs.Stating.{whole, with_variable, with_whole_def, walk_declarator, walk_declarators, walk_decl, walk_decls, walk_init, walk_maybe_init, pos_of_stmt, splits, is_labelled, case_count, has_default, walk_choice, walk_stmt, walk_body, walk_part, walk_compound, walk_items}
 use Rattle.c_walk.specs.Units.{define_declarator, define_declarators, define_decl, define_decls, define_parameters, function_of, in_function, walk_function, walk_external, walk_externals}
@@ -44,12 +44,12 @@ def_counted false c p d s e = absurd (cc)
 sites_counted : (c : Around) (r : Taken) (p : Pos) (d : Option Direct) (scalar : Bool) (s : Walked) → is_written r ≡ true → count s + 1 ≤ count (with_sites c r p d scalar s)
 sites_counted c r p d scalar s w =
     let m = def_counted (is_written r) c p d s w in
-    let n = more_defs (use_adds (if is_read r then scalar else false) c p d (with_def (is_written r) c p d s)) in
+    let n = more_defs (use_adds scalar c p d (with_def (is_written r) c p d s)) in
     omega arith
 
 site_counted : (c : Around) (r : Taken) (p : Pos) (n : NoteShape) (f : ExprShape) (s : Walked) → is_written r ≡ true → is_place f ≡ true → count s + 1 ≤ count (walk_form c r f (with_site c r p n f s))
 site_counted c r p n f s w h =
-    let m : count s + 1 ≤ count (with_site c r p n f s) = subst (λ b. count s + 1 ≤ count (if b then with_sites c r p (direct_form n f) (has_scalar n) s else s)) (sym h) (sites_counted c r p (direct_form n f) (has_scalar n) s w) in
+    let m : count s + 1 ≤ count (with_site c r p n f s) = subst (λ b. count s + 1 ≤ count (if b then with_sites c r p (direct_form n f) (is_used r n) s else s)) (sym h) (sites_counted c r p (direct_form n f) (is_used r n) s w) in
     let k = more_defs (form_adds c r f (with_site c r p n f s)) in
     omega arith
 
@@ -148,6 +148,7 @@ module _ (lo hi : ℕ) where
   changed_fit Changed a s k h = used_fit (holds_scalar a) (next_use s) k h
   changed_fit Read a s k h = h
   changed_fit Written a s k h = h
+  changed_fit Copied a s k h = h
   changed_fit Addressed a s k h = h
 
   entered_fit : (t : TablesShape) (n : NoteShape) (k : Comes) → Fits k → Fits (entered t n k)
@@ -214,9 +215,9 @@ module _ (lo hi : ℕ) where
           test_fits c a s _ _ l (sooner (adds_on (block_adds c.function (pos_of b) j) (test_adds c b k)) h) m.true_fit (block_fit _ _ (test_fits c b k _ _ lk h m.true_fit m.false_fit))
       form_fits c r p n (two (assign q) a b) s M l h m =
           let k = walk_node c (left_taken q) a s in
-          let hk = sooner (node_adds c Read b k) h in
+          let hk = sooner (node_adds c (right_taken q a) b k) h in
           value_fits c (left_taken q) a s _ l hk (changed_fit (left_taken q) a s _
-          (value_fits c Read b k _ (later (node_adds c (left_taken q) a s) l) h (defined_fit _ _ _ (in_range c (left_taken q) a s (is_left q) l hk) (m.evaluated_fit both))))
+          (value_fits c (right_taken q a) b k _ (later (node_adds c (left_taken q) a s) l) h (defined_fit _ _ _ (in_range c (left_taken q) a s (is_left q) l hk) (m.evaluated_fit both))))
       form_fits c r p n (choose a b d) s M l h m =
           let j = walk_test c a s in
           let k = walk_arm c b j in

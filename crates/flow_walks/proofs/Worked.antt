@@ -5,7 +5,7 @@ use Rattle.c_base.specs.declared.place.IntKind.TheVariants.{Int}
 use Rattle.c_syntax.specs.declared.text.Text.{Text}
 use Rattle.c_syntax.specs.declared.token.Key.TheVariants as key
 use Rattle.c_syntax.specs.declared.tree.Named.{Named}
-use Rattle.c_syntax.specs.Shape.{int, typed, number, name, NodeShape, node, ExprShape, leaf, suffix, behind, up, one_node, no_lengths, SpecShapes, no_specs, more_specs, word, decl, DeclShapes, no_decls, more_decls, declarator, no_declarators, more_declarators, arrays, function, void, no_init, one_init, one, StmtShape, stmt, FormShape, compound, simply, while, return, braces, ItemShapes, no_items, more_items, defined, UnitShape}
+use Rattle.c_syntax.specs.Shape.{int, structure, nothing, assign, two, typed, number, name, NodeShape, node, ExprShape, leaf, suffix, behind, up, one_node, no_lengths, SpecShapes, no_specs, more_specs, word, decl, DeclShapes, no_decls, more_decls, declarator, no_declarators, more_declarators, arrays, function, void, no_init, one_init, one, StmtShape, stmt, FormShape, compound, simply, while, return, braces, ItemShapes, no_items, more_items, defined, UnitShape}
 use Rattle.c_tables.specs.Tables.{TablesShape}
 use Rattle.flow_walks.specs.declared.action.Action.TheVariants.{Define, Use, Block, Test, Kill}
 use Rattle.flow_walks.specs.Comes.{Met, act, leave, Comes, turns}
@@ -105,3 +105,32 @@ returning = main_with (int_i 20)
 not_behind_return : IsWalk returning (act (Block 1) ∷ act (Kill 1) ∷ act (Define 1) ∷ act (Use 1) ∷ act (Block 2) ∷ []) → ⊥
 not_behind_return (inl p) = let e = ap block_in p.1.1.1.1.1.0 in absurd (omega arith)
 not_behind_return (inr p) = p
+
+-- ---- structures
+
+abbrev v_text : Text
+v_text = 118 ∷ []
+
+abbrev w_text : Text
+w_text = 119 ∷ []
+
+abbrev whole : ℕ → ℕ → Text → NodeShape
+whole k n x = node (at k) (at k) (typed (structure 1) (Some n)) (leaf (name x))
+
+-- int main(void){v=w;return i;}, where v and w are of one structure
+abbrev copying : UnitShape
+copying = main_with no_decls
+    (then 16 (simply (one_node (node (at 16) (at 17) (typed nothing None) (two (assign None) (whole 16 2 v_text) (whole 18 3 w_text)))))
+    (then 20 (return (one_node (i 27))) no_items))
+
+-- the right one is used, and then the left one is defined
+copied : IsWalk copying (act (Block 1) ∷ act (Use 1) ∷ act (Define 1) ∷ act (Use 2) ∷ leave ∷ [])
+copied = inl (refl, (refl, (refl, (refl, (refl, (refl, tt))))))
+
+abbrev use_in : Met → ℕ
+use_in (act (Use n)) = n
+use_in a = 0
+
+not_defined_before : IsWalk copying (act (Block 1) ∷ act (Define 1) ∷ []) → ⊥
+not_defined_before (inl p) = let e = ap use_in p.1.1.0 in absurd (omega arith)
+not_defined_before (inr p) = p

@@ -5,13 +5,13 @@ use Rattle.c_base.specs.declared.place.Pos.{Pos}
 use Rattle.c_syntax.specs.Shape.{NoteShape, typed, unary, before, size_of, plain, and, or, assign, comma, NodeShape, node, ExprShape, leaf, paren, call, prefix, size_of_type, cast, suffix, two, choose, probe, index, field, behind, NodeShapes, no_nodes, more_nodes, MaybeNode, no_node, one_node}
 use Rattle.c_tables.specs.Tables.{FunctionShape, TablesShape}
 use Rattle.c_tables.specs.Rows.{row}
-use Rattle.c_walk.specs.Places.{is_place, has_scalar}
+use Rattle.c_walk.specs.Places.{is_place, has_scalar, has_structure}
 use Rattle.c_walk.specs.Tests.{outcomes_of_form}
 use Rattle.c_walk.specs.declared.around.Around.{Around}
 use Rattle.c_walk.specs.declared.around.Taken.{Taken}
-use Rattle.c_walk.specs.declared.around.Taken.TheVariants.{Read, Changed}
+use Rattle.c_walk.specs.declared.around.Taken.TheVariants.{Read, Changed, Copied}
 use Rattle.c_walk.specs.Items.{both}
-use Rattle.c_walk.specs.Walked.{Walked, operand_taken, left_taken, with_block, pos_of, next_decision, inside_test, with_test, with_site}
+use Rattle.c_walk.specs.Walked.{Walked, operand_taken, left_taken, right_taken, with_block, pos_of, next_decision, inside_test, with_test, with_site}
 use Rattle.c_walk.specs.Counted.{next_block, next_def, next_use}
 use Rattle.c_walk.specs.Walking.{walk_node, walk_test, walk_arm}
 use Rattle.flow_walks.specs.declared.action.Action.TheVariants.{Define, Use, Block}
@@ -51,9 +51,11 @@ abbrev pub changed_at : Taken → NodeShape → Walked → Comes → Comes
 changed_at Changed a s k = used_at a s k
 changed_at _ a s k = k
 
--- a place by itself is used where its value is read, if it is a scalar; where it is written, or its address is taken, it isn't used here
+-- a place by itself is used where its value is read, if it is a scalar, or copied, if it is a structure; where it is written, or its address
+-- is taken, it isn't used here
 abbrev pub reads : Taken → NoteShape → ExprShape → Bool
 reads Read n f = if is_place f then has_scalar n else false
+reads Copied n f = if is_place f then has_structure n else false
 reads _ n f = false
 
 abbrev pub read_form : Taken → NoteShape → ExprShape → Walked → Comes → Comes
@@ -108,7 +110,7 @@ abbrev mutual
   -- `=` defines the place behind the value; another assignment reads it before
   form_goes t c r p n (two (assign u) a b) s m =
       node_goes t c (left_taken u) a s (value (changed_at (left_taken u) a s
-      (node_goes t c Read b (walk_node c (left_taken u) a s) (value (defined_at a s (evaluated both m))))))
+      (node_goes t c (right_taken u a) b (walk_node c (left_taken u) a s) (value (defined_at a s (evaluated both m))))))
   form_goes t c r p n (choose a b d) s m =
       let j = walk_test c a s in
       test_goes t c a s (arm_goes t c b j (evaluated both m)) (arm_goes t c d (walk_arm c b j) (evaluated both m))

@@ -12,7 +12,7 @@ use Rattle.c_sites_probes.specs.Marked.{body_mark}
 use Rattle.c_tree.specs.State.{Seen, State, step, steps, is_clean}
 use Rattle.c_tree.specs.Rulings.{rule}
 use Rattle.c_tree.specs.Sorts.{Sort, TypedNode, a_value, pos_in}
-use Rattle.c_tree.specs.Operators.{claim}
+use Rattle.c_tree.specs.Operators.{claim, sided}
 use Rattle.c_tree.specs.Typing.{type_node}
 use Rattle.c_tree.specs.Stating.{Surroundings, in_switch, no_labels, switched, type_items, type_body}
 use Rattle.c_walk.specs.declared.around.Around.{Around}
@@ -25,7 +25,7 @@ use Rattle.probe_rules.specs.ProbedExpressions.{probed_node, probed_choice}
 use Rattle.probe_rules.proofs.Claims.{seen_at, test_claimed}
 use Rattle.probe_rules.proofs.Grows.{rule_grows, node_grows}
 use Rattle.probe_rules.proofs.GrowsUnits.{items_grow}
-use Rattle.probe_rules.proofs.Moved.{Alike}
+use Rattle.probe_rules.proofs.Moved.{Alike, sided_alike}
 use Rattle.probe_laws.proofs.Settled.{IsClean}
 use Rattle.probe_laws.proofs.Rules.{back}
 use Rattle.probe_laws.proofs.Known.{Knows}
@@ -33,6 +33,7 @@ use Rattle.probe_laws.proofs.KnownParts.{is_still_clean}
 use Rattle.probe_cases.specs.Cases.{IsFurther, AreInRange, AreDifferent, Stands, begun, ChoicesAreTyped}
 use Rattle.probe_cases.proofs.Spelled.{same_count}
 use Rattle.probe_cases.proofs.Select.{clean_then, further_clean, select_so, knows, choosing_so, switch_chooses}
+use Rattle.c_tree.specs.declared.meaning.Side.TheVariants.{Neither}
 
 -- ---- from any state
 
@@ -85,18 +86,19 @@ module _ (n m : ℕ) where
     pub state : Alike n m seen u (type_node b t).state
 
   pub select_alike : (seen : Seen) (j : IntKind) (zs : List ℤ) → AreInRange (promote j) zs → AreDifferent zs → (w : Walked) (q : Pos) (c : Outcomes) (b : NodeShape) (s u t : State) → next_decision w ≤ 16383
-      → is_clean s u ≡ true → Alike n m (seen_at w) s t → ((r : State) → Alike n m (seen_at (with_decision q c w)) s r → StandsAlike seen j b u r)
+      → is_clean s u ≡ true → Alike n m (seen_at w) s t → ((r : State) → Alike n m (seen_at (with_decision q c w)) (sided Neither s) r → StandsAlike seen j b u r)
       → (let y = type_node (in_select zs w b) t in (y.node ≡ in_select zs w b) × (y.sort ≡ a_value (Some (int j)) No) × Alike n m seen u y.state)
   select_alike seen j zs range apart w q c (node p o i f) s u t few clean al go =
       let b = node p o i f in
       let x = decimal (next_decision w) in
-      let v = steps 3 (claim test x t.at p t) in
-      let claimed : Alike n m (seen_at (with_decision q c w)) s v = further_alike (test_claimed n m t.at p q c w few al) refl in
+      let v = steps 3 (claim test x t.at p (sided Neither t)) in
+      let beside : Alike n m (seen_at w) (sided Neither s) (sided Neither t) = sided_alike n m (seen_at w) Neither Neither refl al in
+      let claimed : Alike n m (seen_at (with_decision q c w)) (sided Neither s) v = further_alike (test_claimed n m t.at p q c w few beside) refl in
       let r = select_so j zs range apart x p o i f t (clean_across al claimed (same_count (length s.complaints))) (λ y further. stands y (further_alike claimed further)) in
       let end : Alike n m seen u (step (type_node b r.0).state) = further_alike (go r.0 (further_alike claimed r.1)).state refl in
       (ap (λ (y : TypedNode). y.node) r.2, ap (λ (y : TypedNode). y.sort) r.2, subst (Alike n m seen u) (sym (ap (λ (y : TypedNode). y.state) r.2)) end)
     where
-      stands : (y : State) → Alike n m (seen_at (with_decision q c w)) s y → Stands j (node p o i f) y
+      stands : (y : State) → Alike n m (seen_at (with_decision q c w)) (sided Neither s) y → Stands j (node p o i f) y
       stands y be = let g = go y be in record { node = g.node; kind = g.kind; clean = clean_across be g.state clean }
 
   -- in a switch of which nothing is complained
@@ -109,7 +111,7 @@ module _ (n m : ℕ) where
       let a = probed_choice d x.node y.items w in
       let z = type_node a t in
       Alike n m (seen_at w) (steps 2 s) t
-      → ((r : State) → Alike n m (seen_at v) (steps 2 s) r → ((type_node b r).node ≡ b) × ((type_node b r).sort ≡ x.sort) × Alike n m seen x.state (type_node b r).state)
+      → ((r : State) → Alike n m (seen_at v) (sided Neither (steps 2 s)) r → ((type_node b r).node ≡ b) × ((type_node b r).sort ≡ x.sort) × Alike n m seen x.state (type_node b r).state)
       → (z.node ≡ a) × (z.sort ≡ a_value x.sort.kind No) × Alike n m seen x.state z.state)
   choice_alike seen c p e items s is g mark clean d w t few al go =
       let x = type_node e (steps 2 s) in

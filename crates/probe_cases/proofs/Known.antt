@@ -10,7 +10,7 @@ use Rattle.c_tree.specs.Complaints.{wrong_type}
 use Rattle.c_tree.specs.State.{State, step, steps, is_clean}
 use Rattle.c_tree.specs.Rulings.{by, rule}
 use Rattle.c_tree.specs.Sorts.{pos_in, note_of, cleared}
-use Rattle.c_tree.specs.Operators.{called, hushed, heard, unary_rule, place_rule, choice_rule}
+use Rattle.c_tree.specs.Operators.{called, hushed, heard, unary_rule, place_rule, choice_rule, entering, left_of, right_of, sided}
 use Rattle.c_tree.specs.Typing.{opening, type_node, type_form, type_arguments, type_type}
 use Rattle.probe_rules.proofs.Grows.{◌▸◌, rule_grows, infix_grows, node_grows, form_grows}
 use Rattle.probe_rules.proofs.ReadyUnits.{some_none, none_first, none_second}
@@ -24,10 +24,11 @@ use Rattle.probe_cases.proofs.Operators.{IsRead, IsReadNode, alike_noted, read_n
 mutual
   pub node_read : (a : NodeShape) (s : State) → node_mark (type_node a s).node ≡ None → IsClean (type_node a s).state → IsReadNode (type_node a s).node (type_node a s).sort
   node_read (node p o n f) s none c =
-      let t = type_form p o f s in
-      let r = form_read p o f s none c in
+      let v = entering f s in
+      let t = type_form p o f v in
+      let r = form_read p o f v none c in
       subst (λ b. IsReadNode (node p o (note_of (cleared b t.typing.sort).kind t.typing.sort.constant t.typing.names t.typing.valued) t.form) (cleared b t.typing.sort))
-      (sym (is_still_clean s t.state (back (form_grows p o f s) c) c)) (record { grounded = r.grounded; alike = r.alike })
+      (sym (is_still_clean s t.state (back (form_grows p o f v) c) c)) (record { grounded = r.grounded; alike = r.alike })
 
   form_read : (p o : Pos) (f : ExprShape) (s : State) → form_mark p (type_form p o f s).form ≡ None → IsClean (type_form p o f s).state → IsRead (type_form p o f s).form (type_form p o f s).typing
   form_read p o (leaf (number t)) s none c = let r = number_read t p (number_of t) in record { grounded = r.0; alike = r.1 }
@@ -69,11 +70,13 @@ mutual
       let x = (type_form p o (suffix a (behind u)) s).typing in
       read_none (suffix t.node (behind u)) x.sort None (λ n. refl) refl
   form_read p o (two u a b) s none c =
-      let t = type_node a s in
-      let v = type_node b (step t.state) in
+      let l = sided (left_of u) s in
+      let t = type_node a l in
+      let r = sided (right_of u t.sort.kind) (step t.state) in
+      let v = type_node b r in
       let late = back (infix_grows t.state.at o s.at (pos_in a) u t.sort v.sort v.state) c in
       infix_read t.state.at o s.at (pos_in a) u t.node v.node t.sort v.sort v.state
-      (node_read a s (none_first (node_mark t.node) (node_mark v.node) none) (back (node_grows b (step t.state)) late)) (node_read b (step t.state) (none_second (node_mark t.node) (node_mark v.node) none) late) c
+      (node_read a l (none_first (node_mark t.node) (node_mark v.node) none) (back (node_grows b r) late)) (node_read b r (none_second (node_mark t.node) (node_mark v.node) none) late) c
   form_read p o (choose a b e) s none c =
       let t = type_node a s in
       let v = type_node b (step t.state) in

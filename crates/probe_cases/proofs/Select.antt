@@ -18,7 +18,7 @@ use Rattle.c_tree.specs.Complaints.{wrong_type}
 use Rattle.c_tree.specs.State.{State, step, steps, is_clean}
 use Rattle.c_tree.specs.Rulings.{Ruled, allowed, by, then_rule, kind_at, rule, of_kind, allowed_if}
 use Rattle.c_tree.specs.Sorts.{Sort, a_value, TypedNode, Formed, formed, plainly, comes_to, note_of, noted, pos_in}
-use Rattle.c_tree.specs.Operators.{claim, differ, select_cases, select_rule}
+use Rattle.c_tree.specs.Operators.{claim, differ, select_cases, select_rule, sided, entering}
 use Rattle.c_tree.specs.Typing.{type_node, type_form, type_cases}
 use Rattle.c_tree.specs.Stating.{Surroundings, in_switch, no_labels, kind_of_switch, switched, type_items, type_body}
 use Rattle.c_sites_probes.specs.Marked.{node_mark, items_mark, body_mark}
@@ -34,8 +34,9 @@ use Rattle.probe_laws.proofs.Rules.{back}
 use Rattle.probe_laws.proofs.Known.{IsSure, AllSure, AllOuter, Knows, rule_goes}
 use Rattle.probe_laws.proofs.KnownNodes.{node_knows}
 use Rattle.probe_cases.specs.Cases.{IsFurther, AreInRange, AreDifferent, IsKnown, AreKnown, AreKnownAround, KnowsNames, CasesDiffer, Stands, SelectsAreTyped}
-use Rattle.probe_cases.proofs.Spelled.{noted_if, lists_are_typed}
+use Rattle.probe_cases.proofs.Spelled.{noted_if, claimed_side, list_typed}
 use Rattle.probe_cases.proofs.Different.{HasSeen, values_differ, items_differ}
+use Rattle.c_tree.specs.declared.meaning.Side.TheVariants.{Neither}
 
 -- ---- the rule
 
@@ -63,7 +64,7 @@ valued_note j Literal m true = refl
 -- an integer that is typed as it stands has the note of its type
 note_so : (j : IntKind) (p o : Pos) (n : NoteShape) (f : ExprShape) (s : State) → Stands j (node p o n f) s → value_note n ≡ typed (int j) None
 note_so j p o n f s is =
-    let t = type_form p o f s in
+    let t = type_form p o f (entering f s) in
     ap value_note (sym (ap note_in is.node))
     ∙ (ap (λ k. value_note (note_of k t.typing.sort.constant t.typing.names t.typing.valued)) is.kind ∙ valued_note j t.typing.sort.constant t.typing.names t.typing.valued)
 
@@ -77,14 +78,14 @@ further_clean s t u further e = sym (ap (λ (x : State). is_clean x u) further) 
 
 -- what is known of the probe, by what is known behind its constants
 pub select_so : (j : IntKind) (zs : List ℤ) → AreInRange (promote j) zs → AreDifferent zs → (x : Text) (p o : Pos) (n : NoteShape) (f : ExprShape) (s : State)
-    → (let c = steps 3 (claim test x s.at p s) in is_clean s c ≡ true → ((t : State) → IsFurther c t → Stands j (node p o n f) t)
+    → (let c = steps 3 (claim test x s.at p (sided Neither s)) in is_clean s c ≡ true → ((t : State) → IsFurther c t → Stands j (node p o n f) t)
     → (let a = node p o (value_note n) (probe (select x (constants_at p o zs)) (node p o n f)) in
     (t : State) × IsFurther c t × (type_node a s ≡ record { node = a; sort = a_value (Some (int j)) No; state = step (type_node (node p o n f) t).state })))
 select_so j zs range apart x p o n f s clean stands =
     let b = node p o n f in
     let cs = constants_at p o zs in
-    let c = steps 3 (claim test x s.at p s) in
-    let list = lists_are_typed (promote j) zs range p o c in
+    let c = steps 3 (claim test x s.at p (sided Neither s)) in
+    let list = list_typed (promote j) zs range p o c (claimed_side test x s.at p (sided Neither s)) in
     let l = type_cases [] cs c in
     let t = step l.state in
     let further : IsFurther c t = ap step list.state in
@@ -149,7 +150,7 @@ choosing_noted p o f j Literal m true = refl
 
 pub choosing_so : (e : NodeShape) (s : State) (j : IntKind) → (type_node e s).sort.kind ≡ Some (int j) → choosing (type_node e s).node ≡ Some (promote j)
 choosing_so (node p o n f) s j e =
-    let t = type_form p o f s in
+    let t = type_form p o f (entering f s) in
     ap (λ k. choosing (node p o (note_of k t.typing.sort.constant t.typing.names t.typing.valued) t.form)) e ∙ choosing_noted p o t.form j t.typing.sort.constant t.typing.names t.typing.valued
 
 all_in_range : (k : IntKind) (zs : List ℤ) → AreCases (Some k) zs → AreInRange k zs

@@ -12,9 +12,10 @@ use Rattle.c_constants.specs.declared.constants.Constant.TheVariants.{No}
 use Rattle.c_constants.specs.Constants as constants
 use Rattle.c_tree.specs.declared.meaning.Entity.{Entity}
 use Rattle.c_tree.specs.declared.meaning.Entity.TheVariants as entity
+use Rattle.c_tree.specs.declared.meaning.Side.TheVariants.{Neither}
 use Rattle.c_tree.specs.State.{State, step, steps, is_clean}
 use Rattle.c_tree.specs.Sorts.{TypedNode, a_value}
-use Rattle.c_tree.specs.Operators.{wrapped, claim}
+use Rattle.c_tree.specs.Operators.{wrapped, sided, claim}
 use Rattle.c_tree.specs.Parts.{TypedCases}
 use Rattle.c_tree.specs.Typing.{type_node, type_cases}
 use Rattle.c_tree.specs.Stating.{Surroundings, type_body}
@@ -34,12 +35,13 @@ use Rattle.probe_rules.specs.ProbedExpressions.{probed_node, probed_choice}
 abbrev pub IsFurther : State → State → Type 0
 IsFurther s t = t ≡ record s { at = t.at }
 
--- in a state the node came out as it stands, and without complaint: an integer constant, which is that value of the type
+-- in a state the node came out as it stands, and without complaint: an integer constant, which is that value of the type; behind it stands
+-- neither side of `=`
 pub record IsTyped (k : IntKind) (z : ℤ) (a : NodeShape) (s : State) (t : TypedNode) : Type 0 where
   pub node : t.node ≡ a
   pub kind : (j : IntKind) × (t.sort.kind ≡ Some (int j))
   pub value : wrapped k (constants.value t.sort.constant) ≡ Some z
-  pub state : IsFurther s t.state
+  pub state : IsFurther (sided Neither s) t.state
 
 -- what is written for a value of a type
 abbrev pub ConstantsAreTyped : Type 0
@@ -52,13 +54,13 @@ pub record AreTyped (k : IntKind) (zs : List ℤ) (cs : NodeShapes) (s : State) 
   pub values : map (wrapped k) t.values ≡ map Some zs
   pub state : IsFurther s t.state
 
--- each is a value of the type
+-- each is a value of the type, and the first stands on neither side
 abbrev pub AreInRange : IntKind → List ℤ → Type 0
 AreInRange k [] = Unit {0}
 AreInRange k (z ∷ zs) = InRange k z × AreInRange k zs
 
 abbrev pub ListsAreTyped : Type 0
-ListsAreTyped = (k : IntKind) (zs : List ℤ) → AreInRange k zs → (p o : Pos) (s : State) → AreTyped k zs (constants_at p o zs) s (type_cases [] (constants_at p o zs) s)
+ListsAreTyped = (k : IntKind) (zs : List ℤ) → AreInRange k zs → (p o : Pos) (s : State) → let r = sided Neither s in AreTyped k zs (constants_at p o zs) r (type_cases [] (constants_at p o zs) r)
 
 -- ---- case constants
 
@@ -118,7 +120,7 @@ pub record Stands (j : IntKind) (b : NodeShape) (s : State) : Type 0 where
 
 -- the state before the constants of a select probe that stands at that place: its number is claimed
 abbrev pub begun : Walked → Pos → State → State
-begun w p s = steps 3 (claim test (decimal (next_decision w)) s.at p s)
+begun w p s = steps 3 (claim test (decimal (next_decision w)) s.at p (sided Neither s))
 
 -- A select probe is typed as it stands, as an integer that is no constant, and the state behind it is one token behind that of its expression:
 -- where its number is claimed without complaint, its constants are different values of the promoted type, and its expression stands behind them.

@@ -8,7 +8,7 @@ ghost use Rattle.probe_rules.specs.Marks.{value_note, place_note, round_value, r
 ghost use Rattle.probe_rules.specs.ProbedExpressions.{sited};
 ghost use Rattle.probe_expr.specs.Numbers.{counts};
 
-use crate::numbers::{Numbers, is_used, is_written};
+use crate::numbers::Numbers;
 use c_base::place::NoMemory;
 use c_copy::build::new_node;
 use c_copy::parts::copy_note;
@@ -16,6 +16,7 @@ use c_syntax::tree::{Expr, ExprProbe, Node, Note};
 use c_type_rules::kinds::{copy, decayed};
 use c_walk::around::Taken;
 use c_walk::places::is_place;
+use c_walk::taken::{is_used, is_written};
 use std::alloc::Global;
 
 // ---- what is known of a probe

@@ -4,7 +4,6 @@ ghost use Rattle.std.specs.Prelude.{◌≡◌, IfOk};
 ghost use Rattle.c_syntax.specs.Shape.{call};
 ghost use Rattle.c_syntax.specs.View.{node_shape, expr_shape, node_list};
 ghost use Rattle.c_walk.specs.declared.around.Taken.TheVariants.{Read};
-ghost use Rattle.c_walk.specs.Walked.{operand_taken, left_taken};
 ghost use Rattle.c_walk.specs.Walking.{walk_node, walk_form, walk_test, walk_arm, walk_nodes, walk_loop_test};
 ghost use Rattle.probe_rules.specs.ProbedExpressions.{probed_node, probed_form, probed_test, probed_arm, probed_nodes, probed_loop_test};
 ghost use Rattle.probe_expr.specs.Numbers.{Numbered};
@@ -16,8 +15,9 @@ use c_copy::build::new_call;
 use c_copy::parts::put_inner;
 use c_copy::tree::{copy_node, copy_probe, copy_type};
 use c_syntax::text::Text;
-use c_syntax::tree::{BinaryOp, Expr, Node, UnaryOp};
+use c_syntax::tree::{Expr, Node};
 use c_walk::around::Taken;
+use c_walk::taken::{left_taken, operand_taken, right_taken};
 use c_walk::tests::is_logical;
 use std::alloc::Global;
 
@@ -74,9 +74,11 @@ impl Prober {
             Expr::And(a, b) => Ok(Expr::And(self.test(a)?, self.loop_test(b)?)),
             Expr::Or(a, b) => Ok(Expr::Or(self.test(a)?, self.loop_test(b)?)),
             Expr::Cond(a, b, c) => Ok(Expr::Cond(self.test(a)?, self.arm(b)?, self.arm(c)?)),
-            Expr::Assign(op, a, b) => {
-                Ok(Expr::Assign(*op, self.node(left_taken(*op), a)?, self.read(b)?))
-            }
+            Expr::Assign(op, a, b) => Ok(Expr::Assign(
+                *op,
+                self.node(left_taken(*op), a)?,
+                self.node(right_taken(*op, a), b)?,
+            )),
             Expr::Comma(a, b) => Ok(Expr::Comma(self.read(a)?, self.read(b)?)),
             // what stands in a probe stays as it is, and is counted
             Expr::Probe(probe, a) => {
@@ -141,23 +143,5 @@ impl Prober {
             put_inner(&mut made, inner)?;
         }
         Ok(made)
-    }
-}
-
-fn operand_taken(op: UnaryOp) -> Taken
-    ensures { result ≡ operand_taken op }
-{
-    match op {
-        UnaryOp::AddressOf => Taken::Addressed,
-        _ => Taken::Read,
-    }
-}
-
-fn left_taken(op: Option<BinaryOp>) -> Taken
-    ensures { result ≡ left_taken op }
-{
-    match op {
-        None => Taken::Written,
-        Some(_) => Taken::Changed,
     }
 }

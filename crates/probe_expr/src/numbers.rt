@@ -1,13 +1,12 @@
 //! The numbers of probes.
 
-ghost use Rattle.std.specs.Prelude.{◌≡◌, ◌+◌, Option, true, false, if◌then◌else◌, IfOk, OnOk};
+ghost use Rattle.std.specs.Prelude.{◌≡◌, ◌+◌, Option, true, IfOk, OnOk};
 ghost use Rattle.std.specs.Fmt.{decimal};
 ghost use Rattle.c_base.specs.declared.place.Pos.{Pos};
 ghost use Rattle.c_syntax.specs.View.{note_shape, expr_shape};
 ghost use Rattle.c_walk.specs.Items.{Outcomes, Direct};
 ghost use Rattle.c_walk.specs.Units.{no_items};
-ghost use Rattle.c_walk.specs.Places.{has_scalar};
-ghost use Rattle.c_walk.specs.Walked.{Walked, next_decision, is_read, is_written, with_block, with_block_if, with_decision, with_test, with_def, with_use, with_site};
+ghost use Rattle.c_walk.specs.Walked.{Walked, next_decision, is_used, is_written, with_block, with_block_if, with_decision, with_test, with_def, with_use, with_site};
 ghost use Rattle.c_walk.specs.Counted.{next_block, next_def, next_use};
 ghost use Rattle.probe_expr.specs.Numbers.{counts, Counted};
 
@@ -15,7 +14,8 @@ use c_base::place::NoMemory;
 use c_syntax::text::Text;
 use c_syntax::tree::Node;
 use c_walk::around::Taken;
-use c_walk::places::{has_scalar, is_place};
+use c_walk::places::is_place;
+use c_walk::taken::{is_used, is_written};
 use c_walk::tests::is_logical;
 use std::alloc::Global;
 
@@ -173,24 +173,4 @@ pub fn decimal_text(alloc: Global, number: u128) -> Result<Text, NoMemory>
         return Err(NoMemory);
     };
     Text::from_bytes(alloc, digits.as_bytes())
-}
-
-/// Whether a place is written.
-pub fn is_written(taken: Taken) -> bool
-    ensures { result ≡ is_written taken }
-{
-    matches!(taken, Taken::Written | Taken::Changed)
-}
-
-fn is_read(taken: Taken) -> bool
-    ensures { result ≡ is_read taken }
-{
-    matches!(taken, Taken::Read | Taken::Changed)
-}
-
-/// Whether a place is used: it is a scalar, and read.
-pub fn is_used(taken: Taken, node: &Node) -> bool
-    ensures { result ≡ (if is_read taken then has_scalar (note_shape node.now.note) else false) }
-{
-    is_read(taken) && has_scalar(&node.note)
 }

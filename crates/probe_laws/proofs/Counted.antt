@@ -10,10 +10,10 @@ use Rattle.c_walk.specs.Items.{Direct, Item, Outcomes, block, decision, def, use
 use Rattle.c_walk.specs.declared.around.Around.{Around}
 use Rattle.c_walk.specs.declared.around.Taken.{Taken}
 use Rattle.c_walk.specs.declared.around.Taken.TheVariants.{Read, Changed}
-use Rattle.c_walk.specs.Places.{is_place, has_scalar, direct_form}
+use Rattle.c_walk.specs.Places.{is_place, direct_form}
 use Rattle.c_walk.specs.Sound.{decision_count}
 use Rattle.c_walk.specs.Tests.{is_logical_form, outcomes_of_form, choosing, case_values}
-use Rattle.c_walk.specs.Walked.{Walked, is_read, is_written, operand_taken, left_taken, with_block, with_block_if, with_decision, with_test, with_def, with_use, with_sites, inside, inside_test, with_site, pos_of}
+use Rattle.c_walk.specs.Walked.{Walked, is_written, operand_taken, left_taken, with_block, with_block_if, with_decision, with_test, with_def, with_use, with_sites, inside, inside_test, with_site, pos_of, right_taken, is_used}
 use Rattle.c_walk.specs.Walking.{walk_node, walk_form, walk_test, walk_arm, walk_nodes, walk_maybe, walk_loop_test, walk_maybe_test, walk_step}
 use Rattle.c_walk.specs.Stating.{whole, with_variable, with_whole_def, walk_init, walk_maybe_init, walk_declarator, walk_declarators, walk_decls, pos_of_stmt, splits, is_labelled, walk_choice, walk_stmt, walk_body, walk_part, walk_compound, walk_items}
 use Rattle.c_walk.specs.Units.{define_declarator, define_declarators, define_decls, define_parameters, function_of, in_function, walk_external, walk_externals}
@@ -51,8 +51,8 @@ use_counted true c p d w h = let e = counted_then w.items (used p c.function d c
 site_counted : (c : Around) (r : Taken) (p : Pos) (n : NoteShape) (f : ExprShape) (w : Walked) → IsCounted w → IsCounted (with_site c r p n f w)
 site_counted c r p n f w h = by (is_place f)
   where
-    by : (b : Bool) → IsCounted (if b then with_sites c r p (direct_form n f) (has_scalar n) w else w)
-    by true = use_counted (if is_read r then has_scalar n else false) c p (direct_form n f) (with_def (is_written r) c p (direct_form n f) w) (def_counted (is_written r) c p (direct_form n f) w h)
+    by : (b : Bool) → IsCounted (if b then with_sites c r p (direct_form n f) (is_used r n) w else w)
+    by true = use_counted (is_used r n) c p (direct_form n f) (with_def (is_written r) c p (direct_form n f) w) (def_counted (is_written r) c p (direct_form n f) w h)
     by false = h
 
 test_counted : (p : Pos) (f : ExprShape) (w : Walked) → IsCounted w → IsCounted (with_test p f w)
@@ -82,7 +82,7 @@ mutual
   form_walked c r (suffix a (behind u)) w h = node_walked c Changed a w h
   form_walked c r (two and a b) w h = let v = walk_test c a w in tests_walked c b (with_block (pos_of b) v) (block_counted (pos_of b) v (tests_walked c a w h))
   form_walked c r (two or a b) w h = let v = walk_test c a w in tests_walked c b (with_block (pos_of b) v) (block_counted (pos_of b) v (tests_walked c a w h))
-  form_walked c r (two (assign u) a b) w h = node_walked c Read b (walk_node c (left_taken u) a w) (node_walked c (left_taken u) a w h)
+  form_walked c r (two (assign u) a b) w h = node_walked c (right_taken u a) b (walk_node c (left_taken u) a w) (node_walked c (left_taken u) a w h)
   form_walked c r (two (plain u) a b) w h = node_walked c Read b (walk_node c Read a w) (node_walked c Read a w h)
   form_walked c r (two comma a b) w h = node_walked c Read b (walk_node c Read a w) (node_walked c Read a w h)
   form_walked c r (choose a b d) w h = let v = walk_test c a w in arm_walked c d (walk_arm c b v) (arm_walked c b v (tests_walked c a w h))

@@ -9,9 +9,9 @@ use Rattle.c_syntax.specs.declared.tree.UnaryOp.{UnaryOp}
 use Rattle.c_syntax.specs.declared.tree.UnaryOp.TheVariants as front
 use Rattle.c_syntax.specs.Shape.{TypeOf, int, pointer, array, structure, nothing, NoteShape, number, char, str, name, unary, before, size_of, plain, and, or, assign, comma, NodeShape, node, ExprShape, leaf, paren, call, prefix, size_of_type, cast, suffix, two, choose, probe, index, field, behind, simple, select, NodeShapes, no_nodes, more_nodes}
 use Rattle.c_syntax.specs.Shaped.{Shaped, ShapedExpr, ShapedNodes}
-use Rattle.c_type_rules.specs.Kinds.{is_scalar, decay}
+use Rattle.c_type_rules.specs.Kinds.{is_scalar, decay, is_structure}
 use Rattle.c_type_rules.specs.Layouts.{Measure}
-use Rattle.c_type_rules.specs.Verdicts.{Verdict, fine, unknown, wrong, on, values_type, compound_type, step_type, cast_type}
+use Rattle.c_type_rules.specs.Verdicts.{Verdict, fine, unknown, wrong, on, values_type, compound_type, step_type, cast_type, assigned_type}
 use Rattle.c_constants.specs.declared.constants.Constant.{Constant}
 use Rattle.c_constants.specs.declared.numbers.Number.{Number}
 use Rattle.c_constants.specs.Numbers.{number_of}
@@ -22,13 +22,13 @@ use Rattle.c_tree.specs.declared.meaning.Entity.TheVariants as entity
 use Rattle.c_tree.specs.State.{State, step, steps, is_clean}
 use Rattle.c_tables.specs.Rows.{row}
 use Rattle.c_tree.specs.Rulings.{by, then_rule, rule, kind_at, of_kind, allowed_if, moved}
-use Rattle.c_tree.specs.Sorts.{Sort, Typing, note_of, cleared, pos_in, changeable}
-use Rattle.c_tree.specs.Operators.{number_sort, named_variable, named_entity, called, Given, given_at, call_of, typed_call, unary_sort, unary_rule, place_rule, step_rule, typed_infix, choice_rule, element_rule, holder, field_rule}
+use Rattle.c_tree.specs.Sorts.{Sort, Typing, note_of, cleared, pos_in, changeable, null, node_sort, value_note}
+use Rattle.c_tree.specs.Operators.{number_sort, named_variable, named_entity, called, Given, given_at, call_of, typed_call, unary_sort, unary_rule, place_rule, step_rule, typed_infix, choice_rule, element_rule, holder, field_rule, left_of, right_of, sided, entering}
 use Rattle.c_tree.specs.Typing.{opening, type_node, type_form, type_arguments, type_type}
 use Rattle.c_walk.specs.declared.around.Taken.{Taken}
-use Rattle.c_walk.specs.declared.around.Taken.TheVariants.{Read, Written, Changed, Addressed}
-use Rattle.c_walk.specs.Places.{is_place, has_scalar}
-use Rattle.c_walk.specs.Walked.{operand_taken, left_taken}
+use Rattle.c_walk.specs.declared.around.Taken.TheVariants.{Read, Written, Changed, Addressed, Copied}
+use Rattle.c_walk.specs.Places.{is_place, has_scalar, has_structure, holds_structure}
+use Rattle.c_walk.specs.Walked.{operand_taken, left_taken, right_taken}
 use Rattle.c_sites_probes.specs.Marked.{first, node_mark, form_mark, nodes_mark, type_mark}
 use Rattle.probe_rules.specs.Fitting.{MayBe, IsName, IsFit, AreFit}
 use Rattle.probe_rules.proofs.ReadyUnits.{some_none, none_first, none_second}
@@ -38,6 +38,9 @@ use Rattle.probe_laws.proofs.Rules.{back, changeable_there, step_there, left_the
 use Rattle.probe_laws.proofs.Known.{MaybeSure, Knows, find_sure}
 use Rattle.probe_laws.proofs.KnownParts.{called_knows, is_still_clean}
 use Rattle.probe_laws.proofs.KnownNodes.{node_knows, type_knows}
+use Rattle.c_tree.specs.declared.meaning.Side.TheVariants.{Neither}
+use Rattle.c_constants.specs.declared.constants.Constant.TheVariants.{Known}
+use Rattle.std.specs.Prelude.{nat_eq, ◌&&◌, if◌then◌else◌}
 
 -- ---- how an expression may be taken
 
@@ -45,32 +48,43 @@ abbrev HasScalarType : Option TypeOf → Type 0
 HasScalarType None = ⊥
 HasScalarType (Some t) = is_scalar t ≡ true
 
+abbrev pub HasStructureType : Option TypeOf → Type 0
+HasStructureType None = ⊥
+HasStructureType (Some t) = is_structure t ≡ true
+
 abbrev pub Allows : Taken → Sort → Type 0
 Allows Read a = Unit {0}
 Allows Addressed a = Unit {0}
 Allows Written a = a.place ≡ true
 Allows Changed a = (a.place ≡ true) × HasScalarType a.kind
+Allows Copied a = (a.place ≡ true) × HasStructureType a.kind
 
 abbrev note_in : Typing → NoteShape
 note_in t = note_of t.sort.kind t.sort.constant t.names t.valued
 
-value_suits : (r : Taken) (x y : Bool) (a : Sort) → a.place ≡ false → Allows r a → MayBe r x y
-value_suits Read x y a e h = tt
-value_suits Addressed x y a e h = tt
-value_suits Written x y a e h = cc
-value_suits Changed x y a e h = let g = h.0 in cc
+value_suits : (r : Taken) (x : Bool) (n : NoteShape) (a : Sort) → a.place ≡ false → Allows r a → MayBe r x n
+value_suits Read x n a e h = tt
+value_suits Addressed x n a e h = tt
+value_suits Written x n a e h = cc
+value_suits Changed x n a e h = let g = h.0 in cc
+value_suits Copied x n a e h = let g = h.0 in cc
 
 scalar_note : (k : Option TypeOf) (c : Constant) (n : Option ℕ) → HasScalarType k → has_scalar (note_of k c n false) ≡ true
 scalar_note None c n h = absurd h
 scalar_note (Some t) c n h = h
 
-place_suits : (r : Taken) (a : Sort) (c : Constant) (n : Option ℕ) → Allows r a → MayBe r true (has_scalar (note_of a.kind c n false))
+structure_note : (k : Option TypeOf) (c : Constant) (n : Option ℕ) → HasStructureType k → has_structure (note_of k c n false) ≡ true
+structure_note None c n h = absurd h
+structure_note (Some t) c n h = h
+
+place_suits : (r : Taken) (a : Sort) (c : Constant) (n : Option ℕ) → Allows r a → MayBe r true (note_of a.kind c n false)
 place_suits Read a c n h = tt
 place_suits Addressed a c n h = tt
 place_suits Written a c n h = refl
 place_suits Changed a c n h = (refl, scalar_note a.kind c n h.1)
+place_suits Copied a c n h = (refl, structure_note a.kind c n h.1)
 
-unary_suits : (r : Taken) (u : UnaryOp) (k : Option TypeOf) (c : Constant) (x : NodeShape) → Allows r (unary_sort u k c) → MayBe r (is_place (prefix (unary u) x)) (has_scalar (note_of (unary_sort u k c).kind (unary_sort u k c).constant None false))
+unary_suits : (r : Taken) (u : UnaryOp) (k : Option TypeOf) (c : Constant) (x : NodeShape) → Allows r (unary_sort u k c) → MayBe r (is_place (prefix (unary u) x)) (note_of (unary_sort u k c).kind (unary_sort u k c).constant None false)
 unary_suits r front.Deref k c x h = place_suits r (unary_sort front.Deref k c) (unary_sort front.Deref k c).constant None h
 unary_suits r front.AddressOf k c x h = value_suits r false _ (unary_sort front.AddressOf k c) refl h
 unary_suits r front.Plus k c x h = value_suits r false _ (unary_sort front.Plus k c) refl h
@@ -93,12 +107,12 @@ number_value None = refl
 number_value (Some n) = refl
 
 row_fits : (r : Taken) (p : Pos) (n : ℕ) (v : Option VariableShape) (s : State) → IsClean (named_variable p n v s).state → Allows r (named_variable p n v s).typing.sort
-    → MayBe r true (has_scalar (note_in (named_variable p n v s).typing)) × IsName (note_in (named_variable p n v s).typing)
+    → MayBe r true (note_in (named_variable p n v s).typing) × IsName (note_in (named_variable p n v s).typing)
 row_fits r p n None s c h = absurd (mended 30 s.at p s c)
 row_fits r p n (Some v) s c h = let t = (named_variable p n (Some v) s).typing in (place_suits r t.sort t.sort.constant (Some n) h, tt)
 
 name_fits : (r : Taken) (p : Pos) (e : Option Entity) (s : State) → MaybeSure false (length s.tables.functions) e → IsClean (named_entity p e s).state → Allows r (named_entity p e s).typing.sort
-    → MayBe r true (has_scalar (note_in (named_entity p e s).typing)) × IsName (note_in (named_entity p e s).typing)
+    → MayBe r true (note_in (named_entity p e s).typing) × IsName (note_in (named_entity p e s).typing)
 name_fits r p (Some (entity.Variable n)) s is c h = row_fits r p n (row s.tables.variables n) s c h
 name_fits r p (Some (entity.Parameter n)) s is c h = cc
 name_fits r p (Some (entity.Constant v)) s is c h = (value_suits r true _ (named_entity p (Some (entity.Constant v)) s).typing.sort refl h, tt)
@@ -158,6 +172,56 @@ left_allows (Some u) a b token o head p s h g c =
     let e = is_left a.kind b.kind a.place (left_there (Some u) s.rooms a b token o head p s h g c) in
     (e, left_scalar u s.rooms a.kind a.place b.kind h g e (infix_there token o head p (assign (Some u)) a b s h g c))
 
+-- ---- what is copied
+
+-- a structure's node is of a structure's type
+noted_structure : (k : Option TypeOf) (c : Constant) (n : Option ℕ) (v : Bool) → has_structure (note_of k c n v) ≡ true → HasStructureType k
+noted_structure None c n v e = cc
+noted_structure (Some t) c n false e = e
+noted_structure (Some t) c n true e = valued c e
+  where
+    valued : (c : Constant) → has_structure (value_note t c) ≡ true → is_structure t ≡ true
+    valued (Known k v) e = cc
+    valued c e = e
+
+pub node_structure : (a : NodeShape) (s : State) → holds_structure (type_node a s).node ≡ true → HasStructureType (type_node a s).sort.kind
+node_structure (node p o n f) s e =
+    let t = type_form p o f (entering f s) in
+    noted_structure (node_sort s t).kind t.typing.sort.constant t.typing.names t.typing.valued e
+
+copy_placed : (b place : Bool) → IsThere (kind_at (by 33 (if b && place then fine nothing else wrong))) → place ≡ true
+copy_placed true true h = refl
+copy_placed true false h = absurd h
+copy_placed false place h = absurd h
+
+copy_taken : (m : ℕ) (b : TypeOf) (n place : Bool) → IsThere (kind_at (by 33 (assigned_type (Some (structure m)) (Some b) n place))) → (place ≡ true) × (is_structure b ≡ true)
+copy_taken m (structure j) n place h = (copy_placed (nat_eq m j) place h, refl)
+copy_taken m (int k) n place h = absurd h
+copy_taken m (pointer t) n place h = absurd h
+copy_taken m (array t k) n place h = absurd h
+copy_taken m nothing n place h = absurd h
+
+right_structure : (k : Option TypeOf) (b : Bool) (j : Option TypeOf) (n place : Bool) → HasStructureType k → IsThere j → b ≡ true → IsThere (kind_at (by 33 (assigned_type (left_kind k b j) j n place))) → (place ≡ true) × HasStructureType j
+right_structure None b j n place is at e h = absurd is
+right_structure (Some t) b None n place is at e h = absurd at
+right_structure (Some t) false (Some x) n place is at e h = cc
+right_structure (Some (structure m)) true (Some x) n place is at e h = copy_taken m x n place h
+right_structure (Some (int k)) true (Some x) n place is at e h = cc
+right_structure (Some (pointer t)) true (Some x) n place is at e h = cc
+right_structure (Some (array t k)) true (Some x) n place is at e h = cc
+right_structure (Some nothing) true (Some x) n place is at e h = cc
+
+pub right_allows : (u : Option BinaryOp) (x : NodeShape) (a b : Sort) (token : ℕ) (o : Pos) (head : ℕ) (p : Pos) (s : State) → (holds_structure x ≡ true → HasStructureType a.kind) → IsThere a.kind → IsThere b.kind → IsClean (typed_infix token o head p (assign u) a b s).state → Allows (right_taken u x) b
+right_allows (Some u) x a b token o head p s holds h g c = tt
+right_allows None x a b token o head p s holds h g c = by_left (holds_structure x) refl
+  where
+    by_left : (copies : Bool) → holds_structure x ≡ copies → Allows (if copies then Copied else Read) b
+    by_left true e =
+        right_structure a.kind a.place b.kind (null b) b.place (holds e) g (left_allows None a b token o head p s h g c) (infix_there token o head p (assign None) a b s h g c)
+    by_left false e = tt
+
+-- ---- steps
+
 step_scalar : (rooms : List Measure) (k : Option TypeOf) (b : Bool) → IsThere k → b ≡ true → IsThere (kind_at (then_rule (by 33 (step_type (kind_at (of_kind k (allowed_if b 32))))) (moved rooms))) → HasScalarType k
 step_scalar rooms None b is e h = is
 step_scalar rooms (Some t) true is e h = compound_scalar op.Add rooms t (int Int) h
@@ -173,10 +237,11 @@ step_allows rooms a token o head p s h c =
 mutual
   pub node_fits : (r : Taken) (a : NodeShape) (s : State) → Shaped a → node_mark (type_node a s).node ≡ None → Knows false s → IsClean (type_node a s).state → Allows r (type_node a s).sort → IsFit r (type_node a s).node
   node_fits r (node p o n f) s is m h c able =
-      let t = type_form p o f s in
-      let e = is_still_clean s t.state (back (form_grows p o f s) c) c in
+      let v = entering f s in
+      let t = type_form p o f v in
+      let e = is_still_clean s t.state (back (form_grows p o f v) c) c in
       subst (λ b. IsFit r (node p o (note_of (cleared b t.typing.sort).kind t.typing.sort.constant t.typing.names t.typing.valued) t.form)) (sym e)
-      (form_fits r p o f s is.1 m h c (subst (λ b. Allows r (cleared b t.typing.sort)) e able))
+      (form_fits r p o f v is.1 m h c (subst (λ b. Allows r (cleared b t.typing.sort)) e able))
 
   form_fits : (r : Taken) (p o : Pos) (f : ExprShape) (s : State) → ShapedExpr f → form_mark p (type_form p o f s).form ≡ None → Knows false s → IsClean (type_form p o f s).state → Allows r (type_form p o f s).typing.sort
       → IsFit r (node p o (note_in (type_form p o f s).typing) (type_form p o f s).form)
@@ -243,64 +308,74 @@ mutual
         node_fits Changed a s is.1 (none_first (node_mark t.node) None m) h late (step_allows t.state.rooms t.sort t.state.at o s.at (pos_in a) (step t.state) one.0 c),
       )
   form_fits r p o (two (plain u) a e) s is m h c able =
-      let t = type_node a s in
-      let v = type_node e (step t.state) in
+      let l = sided Neither s in
+      let t = type_node a l in
+      let d = sided Neither (step t.state) in
+      let v = type_node e d in
       let late = back (infix_grows t.state.at o s.at (pos_in a) (plain u) t.sort v.sort v.state) c in
-      let early = back (node_grows e (step t.state)) late in
-      let one = node_knows a s is.2 h early in (
+      let early = back (node_grows e d) late in
+      let one = node_knows a l is.2 h early in (
         value_suits r false _ (type_form p o (two (plain u) a e) s).typing.sort refl able,
         (
-          node_fits Read a s is.2 (none_first (node_mark t.node) (node_mark v.node) m) h early tt,
-          node_fits Read e (step t.state) is.4 (none_second (node_mark t.node) (node_mark v.node) m) one.1.0 late tt,
+          node_fits Read a l is.2 (none_first (node_mark t.node) (node_mark v.node) m) h early tt,
+          node_fits Read e d is.4 (none_second (node_mark t.node) (node_mark v.node) m) one.1.0 late tt,
         ),
       )
   form_fits r p o (two and a e) s is m h c able =
-      let t = type_node a s in
-      let v = type_node e (step t.state) in
+      let l = sided Neither s in
+      let t = type_node a l in
+      let d = sided Neither (step t.state) in
+      let v = type_node e d in
       let late = back (infix_grows t.state.at o s.at (pos_in a) and t.sort v.sort v.state) c in
-      let early = back (node_grows e (step t.state)) late in
-      let one = node_knows a s is.2 h early in (
+      let early = back (node_grows e d) late in
+      let one = node_knows a l is.2 h early in (
         value_suits r false _ (type_form p o (two and a e) s).typing.sort refl able,
         (
-          node_fits Read a s is.2 (none_first (node_mark t.node) (node_mark v.node) m) h early tt,
-          node_fits Read e (step t.state) is.4 (none_second (node_mark t.node) (node_mark v.node) m) one.1.0 late tt,
+          node_fits Read a l is.2 (none_first (node_mark t.node) (node_mark v.node) m) h early tt,
+          node_fits Read e d is.4 (none_second (node_mark t.node) (node_mark v.node) m) one.1.0 late tt,
         ),
       )
   form_fits r p o (two or a e) s is m h c able =
-      let t = type_node a s in
-      let v = type_node e (step t.state) in
+      let l = sided Neither s in
+      let t = type_node a l in
+      let d = sided Neither (step t.state) in
+      let v = type_node e d in
       let late = back (infix_grows t.state.at o s.at (pos_in a) or t.sort v.sort v.state) c in
-      let early = back (node_grows e (step t.state)) late in
-      let one = node_knows a s is.2 h early in (
+      let early = back (node_grows e d) late in
+      let one = node_knows a l is.2 h early in (
         value_suits r false _ (type_form p o (two or a e) s).typing.sort refl able,
         (
-          node_fits Read a s is.2 (none_first (node_mark t.node) (node_mark v.node) m) h early tt,
-          node_fits Read e (step t.state) is.4 (none_second (node_mark t.node) (node_mark v.node) m) one.1.0 late tt,
+          node_fits Read a l is.2 (none_first (node_mark t.node) (node_mark v.node) m) h early tt,
+          node_fits Read e d is.4 (none_second (node_mark t.node) (node_mark v.node) m) one.1.0 late tt,
         ),
       )
   form_fits r p o (two comma a e) s is m h c able =
-      let t = type_node a s in
-      let v = type_node e (step t.state) in
+      let l = sided Neither s in
+      let t = type_node a l in
+      let d = sided Neither (step t.state) in
+      let v = type_node e d in
       let late = back (infix_grows t.state.at o s.at (pos_in a) comma t.sort v.sort v.state) c in
-      let early = back (node_grows e (step t.state)) late in
-      let one = node_knows a s is.2 h early in (
+      let early = back (node_grows e d) late in
+      let one = node_knows a l is.2 h early in (
         value_suits r false _ (type_form p o (two comma a e) s).typing.sort refl able,
         (
-          node_fits Read a s is.2 (none_first (node_mark t.node) (node_mark v.node) m) h early tt,
-          node_fits Read e (step t.state) is.4 (none_second (node_mark t.node) (node_mark v.node) m) one.1.0 late tt,
+          node_fits Read a l is.2 (none_first (node_mark t.node) (node_mark v.node) m) h early tt,
+          node_fits Read e d is.4 (none_second (node_mark t.node) (node_mark v.node) m) one.1.0 late tt,
         ),
       )
   form_fits r p o (two (assign u) a e) s is m h c able =
-      let t = type_node a s in
-      let v = type_node e (step t.state) in
+      let l = sided (left_of (assign u)) s in
+      let t = type_node a l in
+      let d = sided (right_of (assign u) t.sort.kind) (step t.state) in
+      let v = type_node e d in
       let late = back (infix_grows t.state.at o s.at (pos_in a) (assign u) t.sort v.sort v.state) c in
-      let early = back (node_grows e (step t.state)) late in
-      let one = node_knows a s is.2 h early in
-      let other = node_knows e (step t.state) is.4 one.1.0 late in (
+      let early = back (node_grows e d) late in
+      let one = node_knows a l is.2 h early in
+      let other = node_knows e d is.4 one.1.0 late in (
         value_suits r false _ (type_form p o (two (assign u) a e) s).typing.sort refl able,
         (
-          node_fits (left_taken u) a s is.2 (none_first (node_mark t.node) (node_mark v.node) m) h early (left_allows u t.sort v.sort t.state.at o s.at (pos_in a) v.state one.0 other.0 c),
-          node_fits Read e (step t.state) is.4 (none_second (node_mark t.node) (node_mark v.node) m) one.1.0 late tt,
+          node_fits (left_taken u) a l is.2 (none_first (node_mark t.node) (node_mark v.node) m) h early (left_allows u t.sort v.sort t.state.at o s.at (pos_in a) v.state one.0 other.0 c),
+          node_fits (right_taken u t.node) e d is.4 (none_second (node_mark t.node) (node_mark v.node) m) one.1.0 late (right_allows u t.node t.sort v.sort t.state.at o s.at (pos_in a) v.state (node_structure a l) one.0 other.0 c),
         ),
       )
   form_fits r p o (choose a e g) s is m h c able =

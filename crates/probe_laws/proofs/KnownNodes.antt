@@ -13,7 +13,7 @@ use Rattle.c_tables.specs.Tables.{FieldShape}
 use Rattle.c_tree.specs.State.{State, step, steps, complain, demand, is_clean, field_type}
 use Rattle.c_tree.specs.Rulings.{rule, kind_at, of_kind, whole, sized}
 use Rattle.c_tree.specs.Sorts.{Sort, pos_in, cleared, changeable}
-use Rattle.c_tree.specs.Operators.{has_value, string_type, with_literal, called, Given, given_at, hushed, heard, unary_rule, place_rule, step_rule, left_side, plain_rule, assigned_rule, typed_infix, choice_rule, element_rule, holder, field_rule, probe_rule, select_rule, constant_rule, claim}
+use Rattle.c_tree.specs.Operators.{has_value, string_type, with_literal, called, Given, given_at, hushed, heard, unary_rule, place_rule, step_rule, left_side, plain_rule, assigned_rule, typed_infix, choice_rule, element_rule, holder, field_rule, probe_rule, select_rule, constant_rule, claim, left_of, right_of, sided, entering}
 use Rattle.c_type_rules.specs.Verdicts.{cast_type, logical_type}
 use Rattle.c_tree.specs.Rulings.{by}
 use Rattle.c_tree.specs.Parts.{Length, left_out, length_of, length_rule, pointed, star_tokens, arrays_of, Spelled, unspelled, with_word, with_tagged, static_fits, spelled_rule, begun_at, opened, tag_tokens, structure_kind, within, is_free, with_field, field_state, entity_of, declare, after, enumeration, passes, value_rule}
@@ -58,9 +58,10 @@ infix_goes token o head p comma x y s h = stays s h
 mutual
   pub node_knows : {b : Bool} (a : NodeShape) (s : State) → Shaped a → Knows b s → IsClean (type_node a s).state → IsThere (type_node a s).sort.kind × Goes b s (type_node a s).state
   node_knows (node p o n f) s is h c =
-      let t = type_form p o f s in
-      let r = form_knows p o f s is.1 h c in
-      (subst (λ x. IsThere (cleared x t.typing.sort).kind) (sym (is_still_clean s t.state (back (form_grows p o f s) c) c)) r.0, r.1)
+      let u = entering f s in
+      let t = type_form p o f u in
+      let r = form_knows p o f u is.1 h c in
+      (subst (λ x. IsThere (cleared x t.typing.sort).kind) (sym (is_still_clean s t.state (back (form_grows p o f u) c) c)) r.0, r.1)
 
   pub form_knows : {b : Bool} (p o : Pos) (f : ExprShape) (s : State) → ShapedExpr f → Knows b s → IsClean (type_form p o f s).state → IsThere (type_form p o f s).typing.sort.kind × Goes b s (type_form p o f s).state
   form_knows p o (leaf (number t)) s is h c = (rules.number_there (number_of t) s.at p s c, demand_goes (has_value (number_of t)) 33 s.at p s h)
@@ -140,11 +141,13 @@ mutual
       let second = rule_goes (changeable t.sort) s.at (pos_in a) (step t.state) first.1.0 in
       (step_there t.state.rooms t.sort t.state.at o s.at (pos_in a) (step t.state) first.0 c, first.1 ▹ second ▹ rule_goes r t.state.at o v second.0)
   form_knows p o (two u a e) s is h c =
-      let t = type_node a s in
-      let v = type_node e (step t.state) in
+      let l = sided (left_of u) s in
+      let t = type_node a l in
+      let r = sided (right_of u t.sort.kind) (step t.state) in
+      let v = type_node e r in
       let late = back (infix_grows t.state.at o s.at (pos_in a) u t.sort v.sort v.state) c in
-      let first = node_knows a s is.2 h (back (node_grows e (step t.state)) late) in
-      let second = node_knows e (step t.state) is.4 first.1.0 late in
+      let first = node_knows a l is.2 h (back (node_grows e r) late) in
+      let second = node_knows e r is.4 first.1.0 late in
       (infix_there t.state.at o s.at (pos_in a) u t.sort v.sort v.state first.0 second.0 c, first.1 ▹ second.1 ▹ infix_goes t.state.at o s.at (pos_in a) u t.sort v.sort v.state second.1.0)
   form_knows p o (choose a e g) s is h c =
       let t = type_node a s in
@@ -160,10 +163,10 @@ mutual
   form_knows p o (probe (simple u x) a) s is h c =
       let v = steps 4 (claim u x s.at p s) in
       let t = type_node a v in
-      let r = probe_rule u t.sort in
+      let r = probe_rule u s.side t.sort in
       let first = claim_goes u x s.at p s h in
       let second = node_knows a v is.1 first.0 (back (rule_grows r s.at p t.state) c) in
-      (probe_there u t.sort.constant t.sort s.at p t.state second.0 c, first ▹ second.1 ▹ rule_goes r s.at p t.state second.1.0)
+      (probe_there u s.side t.sort.constant t.sort s.at p t.state second.0 c, first ▹ second.1 ▹ rule_goes r s.at p t.state second.1.0)
   form_knows p o (probe (select x cs) a) s is h c =
       let v = steps 3 (claim test x s.at p s) in
       let t = type_cases [] cs v in

@@ -8,15 +8,16 @@ use Rattle.c_syntax.specs.declared.tree.UnaryOp.TheVariants as front
 use Rattle.c_syntax.specs.Shape.{TypeOf, int, pointer, array, structure, nothing, Infix, plain, and, or, assign, comma, Access, dot, arrow, Probing, block, test, used, def}
 use Rattle.c_type_rules.specs.Kinds.{promote}
 use Rattle.c_type_rules.specs.Layouts.{Measure}
-use Rattle.c_type_rules.specs.Verdicts.{binary_type, truth_type, logical_type, conditional_type, fits_type, compound_type, step_type, promoted_type, target_type, element_type, address_type, cast_type, scalar_type}
+use Rattle.c_type_rules.specs.Verdicts.{binary_type, truth_type, logical_type, conditional_type, assigned_type, compound_type, step_type, promoted_type, target_type, element_type, address_type, cast_type, probed_type}
 use Rattle.c_constants.specs.declared.numbers.Number.{Number}
 use Rattle.c_constants.specs.declared.constants.Constant.{Constant}
+use Rattle.c_tree.specs.declared.meaning.Side.{Side}
 use Rattle.c_tree.specs.State.{State, step, demand, field_type, fields_of}
 use Rattle.c_tree.specs.Rulings.{Ruled, allowed, unsettled, refused, by, then_rule, kind_at, rule, of_kind, allowed_if, whole, object, moved, sized, as_size, comma_kind}
 use Rattle.c_tree.specs.Sorts.{Sort, null, changeable}
-use Rattle.c_tree.specs.Operators.{number_sort, has_value, unary_rule, unary_sort, place_rule, step_rule, plain_rule, left_side, assigned_rule, typed_infix, choice_rule, element_rule, holder, field_rule, found_field, probe_rule, probe_sort, as_decayed, select_cases, differ, select_rule}
+use Rattle.c_tree.specs.Operators.{number_sort, has_value, unary_rule, unary_sort, place_rule, step_rule, plain_rule, left_side, assigned_rule, typed_infix, choice_rule, element_rule, holder, field_rule, found_field, is_copied, probe_rule, probe_sort, as_decayed, select_cases, differ, select_rule}
 use Rattle.probe_rules.proofs.Grows.{rule_grows}
-use Rattle.probe_laws.proofs.Settled.{IsThere, IsClean, Settled, mended, type_there, by_told, then_settled, of_kind_settled, if_settled, whole_settled, object_settled, moved_settled, binary_told, test_told, logical_told, conditional_told, fits_told, compound_told, step_told, promoted_told, target_told, element_told, address_told, cast_told, scalar_told, IsStructure, dot_held, arrow_held, structure_there}
+use Rattle.probe_laws.proofs.Settled.{IsThere, IsClean, Settled, mended, type_there, by_told, then_settled, of_kind_settled, if_settled, whole_settled, object_settled, moved_settled, binary_told, test_told, logical_told, conditional_told, assigned_told, compound_told, step_told, promoted_told, target_told, element_told, address_told, cast_told, probed_told, IsStructure, dot_held, arrow_held, structure_there}
 
 -- nothing was complained of before
 pub back : {n m : ℕ} → n ≤ m → m ≡ 0 → n ≡ 0
@@ -80,7 +81,7 @@ left_settled : (a b : Sort) → IsThere a.kind → IsThere b.kind → Settled (l
 left_settled a b h g = of_kind_settled b.kind (λ t. changeable a) g (λ t. changeable_settled a h)
 
 assigned_settled : (u : Option BinaryOp) (rooms : List Measure) (a b : Sort) → IsThere (kind_at (left_side a b)) → IsThere b.kind → Settled (assigned_rule u rooms a b)
-assigned_settled None rooms a b h g = by_told 33 (fits_type (kind_at (left_side a b)) b.kind (null b)) (fits_told (kind_at (left_side a b)) b.kind (null b) h g)
+assigned_settled None rooms a b h g = by_told 33 (assigned_type (kind_at (left_side a b)) b.kind (null b) b.place) (assigned_told (kind_at (left_side a b)) b.kind (null b) b.place h g)
 assigned_settled (Some u) rooms a b h g =
     then_settled (by 33 (compound_type u (kind_at (left_side a b)) b.kind)) (moved rooms) (by_told 33 (compound_type u (kind_at (left_side a b)) b.kind) (compound_told u (kind_at (left_side a b)) b.kind h g)) (moved_settled rooms)
 
@@ -148,15 +149,15 @@ field_there h x a token o q s is c =
 decayed_settled : (a : Option TypeOf) → IsThere a → Settled (of_kind a as_decayed)
 decayed_settled a h = of_kind_settled a as_decayed h (λ t. tt)
 
-placed_settled : (a : Sort) → IsThere a.kind → Settled (then_rule (by 33 (scalar_type a.kind)) (allowed_if a.place 33))
-placed_settled a h = then_settled (by 33 (scalar_type a.kind)) (allowed_if a.place 33) (by_told 33 (scalar_type a.kind) (scalar_told a.kind h)) (if_settled a.place 33)
+placed_settled : (copied : Bool) (a : Sort) → IsThere a.kind → Settled (then_rule (by 33 (probed_type copied a.kind)) (allowed_if a.place 33))
+placed_settled copied a h = then_settled (by 33 (probed_type copied a.kind)) (allowed_if a.place 33) (by_told 33 (probed_type copied a.kind) (probed_told copied a.kind h)) (if_settled a.place 33)
 
-pub probe_there : (u : Probing) (k : Constant) (a : Sort) (token : ℕ) (p : Pos) (s : State) → IsThere a.kind → IsClean (rule (probe_rule u a) token p s) → IsThere (probe_sort u (kind_at (probe_rule u a)) k).kind
-probe_there block k a token p s h c = type_there (probe_rule block a) token p s (decayed_settled a.kind h) c
-probe_there test k a token p s h c =
-    type_there (probe_rule test a) token p s (then_settled (by 33 (truth_type a.kind)) (λ t. of_kind a.kind as_decayed) (by_told 33 (truth_type a.kind) (test_told a.kind h)) (λ t. decayed_settled a.kind h)) c
-probe_there used k a token p s h c = type_there (probe_rule used a) token p s (placed_settled a h) c
-probe_there def k a token p s h c = type_there (probe_rule def a) token p s (placed_settled a h) c
+pub probe_there : (u : Probing) (d : Side) (k : Constant) (a : Sort) (token : ℕ) (p : Pos) (s : State) → IsThere a.kind → IsClean (rule (probe_rule u d a) token p s) → IsThere (probe_sort u (kind_at (probe_rule u d a)) k).kind
+probe_there block d k a token p s h c = type_there (probe_rule block d a) token p s (decayed_settled a.kind h) c
+probe_there test d k a token p s h c =
+    type_there (probe_rule test d a) token p s (then_settled (by 33 (truth_type a.kind)) (λ t. of_kind a.kind as_decayed) (by_told 33 (truth_type a.kind) (test_told a.kind h)) (λ t. decayed_settled a.kind h)) c
+probe_there used d k a token p s h c = type_there (probe_rule used d a) token p s (placed_settled (is_copied used d) a h) c
+probe_there def d k a token p s h c = type_there (probe_rule def d a) token p s (placed_settled (is_copied def d) a h) c
 
 cases_settled : (vs : List (Option ℤ)) (k : Option TypeOf) → IsThere k → Settled (then_rule (by 33 (promoted_type k)) (select_cases vs))
 cases_settled vs None h = h

@@ -8,7 +8,7 @@ use Rattle.c_syntax.specs.declared.tree.BinaryOp.TheVariants as op
 use Rattle.c_syntax.specs.Shape.{TypeOf, int, pointer, array, structure, nothing}
 use Rattle.c_type_rules.specs.Kinds.{is_integer, is_scalar, same_type, decay}
 use Rattle.c_type_rules.specs.Layouts.{Measure, known, incomplete, too_large, measure}
-use Rattle.c_type_rules.specs.Verdicts.{Verdict, fine, unknown, wrong, fine_if, on, null_for, arithmetic_type, shift_type, sum_type, difference_type, order_type, equality_type, values_type, binary_type, truth_of, truth_type, logical_type, alike_type, branches_type, conditional_type, stored_type, fits_type, changed_type, compound_type, step_type, promoted_value, promoted_type, target_of, target_type, element_type, address_of, address_type, structure_of, structure_type, pointed_type, turned_type, cast_type, scalar_type, parameter_type, given_of, result_type}
+use Rattle.c_type_rules.specs.Verdicts.{Verdict, fine, unknown, wrong, fine_if, on, null_for, arithmetic_type, shift_type, sum_type, difference_type, order_type, equality_type, values_type, binary_type, truth_of, truth_type, logical_type, alike_type, branches_type, conditional_type, stored_type, is_copy, assigned_type, changed_type, compound_type, step_type, promoted_value, promoted_type, target_of, target_type, element_type, address_of, address_type, structure_of, structure_type, pointed_type, turned_type, cast_type, is_probed, probed_type, parameter_type, given_of, result_type}
 use Rattle.c_tree.specs.State.{State, complain}
 use Rattle.c_tree.specs.Rulings.{Ruled, allowed, unsettled, refused, by, then_rule, kind_at, rule, of_kind, allowed_if, by_room, whole, object, by_end, complete, moved}
 
@@ -197,10 +197,13 @@ stored_told (int k) b n = if_told (is_integer b) (int k)
 stored_told (pointer t) b n = if_told (null_for n b (pointer t) || same_type (pointer t) b) (pointer t)
 stored_told t b n = tt
 
-pub fits_told : (t b : Option TypeOf) (n : Bool) → IsThere t → IsThere b → Told (fits_type t b n)
-fits_told None b n h g = h
-fits_told (Some t) None n h g = g
-fits_told (Some t) (Some b) n h g = stored_told t (decay b) n
+copied_told : (t b : TypeOf) (n place : Bool) → Told (if is_copy t b place then fine nothing else stored_type t (decay b) n)
+copied_told t b n place = either_told (is_copy t b place) (fine nothing) (stored_type t (decay b) n) tt (stored_told t (decay b) n)
+
+pub assigned_told : (t b : Option TypeOf) (n place : Bool) → IsThere t → IsThere b → Told (assigned_type t b n place)
+assigned_told None b n place h g = h
+assigned_told (Some t) None n place h g = g
+assigned_told (Some t) (Some b) n place h g = copied_told t b n place
 
 changed_told : (u : BinaryOp) (a b : TypeOf) → Told (changed_type u a b)
 changed_told u a b = on_told (values_type u (decay a) false (decay b) false) (λ t. stored_type a t false) (values_told u (decay a) false (decay b) false) (λ t. stored_told a t false)
@@ -253,9 +256,9 @@ cast_told None b h g = h
 cast_told (Some a) None h g = g
 cast_told (Some a) (Some b) h g = turned_told a b
 
-pub scalar_told : (a : Option TypeOf) → IsThere a → Told (scalar_type a)
-scalar_told None h = h
-scalar_told (Some a) h = if_told (is_scalar a) a
+pub probed_told : (copied : Bool) (a : Option TypeOf) → IsThere a → Told (probed_type copied a)
+probed_told copied None h = h
+probed_told copied (Some a) h = if_told (is_probed copied a) a
 
 pub parameter_told : (t : TypeOf) → Told (parameter_type (Some t))
 parameter_told t = if_told (is_scalar (decay t)) (decay t)

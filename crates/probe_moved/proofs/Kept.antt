@@ -19,7 +19,7 @@ use Rattle.c_tables.specs.Rows.{row, text_of, name_pos}
 use Rattle.c_tree.specs.Rulings.{Ruled, allowed, unsettled, refused, by, rule, kind_at, of_kind, whole}
 use Rattle.c_constants.specs.Constants as constants
 use Rattle.c_tree.specs.Sorts.{Sort, pos_in, changeable}
-use Rattle.c_tree.specs.Operators.{named_variable, named_parameter, named_entity, called_entity, called, Given, given_at, fit_all, call_of, typed_call, typed_infix, with_literal, left_side, place_rule, holder, constant_rule, seen_of, claimed, claim, hushed, heard}
+use Rattle.c_tree.specs.Operators.{named_variable, named_parameter, named_entity, called_entity, called, Given, given_at, fit_all, call_of, typed_call, typed_infix, with_literal, left_side, place_rule, holder, constant_rule, seen_of, claimed, claim, hushed, heard, left_of, right_of, sided, entering}
 use Rattle.c_tree.specs.Typing.{opening, type_node, type_form, type_arguments, type_cases, type_type, type_lengths, type_specs, type_struct, type_lines, type_fields, type_enum, rows_types, type_value}
 use Rattle.c_tree.specs.Parts.{Length, length_rule, value_rule, passes, Spelled, unspelled, with_word, with_tagged, spelled_rule, star_tokens, left_out, length_of, judged_length, judged_constant, known_structure, listed_structure, Opened, opened, begun_at, closed, within, tag_tokens, field_state, is_free, with_field, arrays_of, pointed, declared_at, declare, entity_of, after, enumeration, known_enumeration, listed_enumeration, static_fits}
 
@@ -168,7 +168,7 @@ enumeration_kept false (Some x) s = known_enum_kept x.pos (find x.text s.tags) s
 
 mutual
   pub node_kept : (a : NodeShape) (s : State) → Keeps s (type_node a s).state
-  node_kept (node p o n f) s = form_kept p o f s
+  node_kept (node p o n f) s = form_kept p o f (entering f s)
 
   pub form_kept : (p o : Pos) (f : ExprShape) (s : State) → Keeps s (type_form p o f s).state
   form_kept p o (leaf (number t)) s = demand_kept _ 33 s.at p s
@@ -208,9 +208,10 @@ mutual
       let t = type_node a s in
       node_kept a s ▸ rule_kept (changeable t.sort) s.at (pos_in a) (step t.state) ▸ rule_kept _ t.state.at o (rule (changeable t.sort) s.at (pos_in a) (step t.state))
   form_kept p o (two u a b) s =
-      let t = type_node a s in
-      let v = type_node b (step t.state) in
-      node_kept a s ▸ node_kept b (step t.state) ▸ infix_kept t.state.at o s.at (pos_in a) u t.sort v.sort v.state
+      let t = type_node a (sided (left_of u) s) in
+      let r = sided (right_of u t.sort.kind) (step t.state) in
+      let v = type_node b r in
+      node_kept a (sided (left_of u) s) ▸ node_kept b r ▸ infix_kept t.state.at o s.at (pos_in a) u t.sort v.sort v.state
   form_kept p o (choose a b c) s =
       let t = type_node a s in
       let v = type_node b (step t.state) in

@@ -13,9 +13,9 @@ use Rattle.c_walk.specs.declared.around.Around.{Around}
 use Rattle.c_walk.specs.declared.around.Taken.{Taken}
 use Rattle.c_walk.specs.declared.around.Taken.TheVariants.{Read, Changed}
 use Rattle.c_walk.specs.Items.{cases}
-use Rattle.c_walk.specs.Places.{is_place, has_scalar}
+use Rattle.c_walk.specs.Places.{is_place}
 use Rattle.c_walk.specs.Tests.{is_logical_form, choosing, label_values, case_values}
-use Rattle.c_walk.specs.Walked.{Walked, is_read, is_written, operand_taken, left_taken, with_block, pos_of, inside, inside_test, with_decision, with_test, with_site}
+use Rattle.c_walk.specs.Walked.{Walked, is_written, operand_taken, left_taken, with_block, pos_of, inside, inside_test, with_decision, with_test, with_site, right_taken, is_used}
 use Rattle.c_walk.specs.Walking.{walk_node, walk_test, walk_arm}
 use Rattle.c_sites_probes.specs.Marked.{first, node_mark, form_mark, nodes_mark, maybe_mark, type_mark}
 use Rattle.probe_rules.specs.Marks.{round_value, round_place, in_block, in_test, in_use, in_def, in_select, constants_at}
@@ -131,7 +131,7 @@ formed_firm : (p o : Pos) (n : NoteShape) (f g : ExprShape) → FirmForm f g →
 formed_firm p o n f g i = record { shaped = (refl, i.shaped); level = omega (arith, i.level); height = i.height; chain = omega (arith, i.chain) }
 
 sited_firm : (r : Taken) (p o : Pos) (n : NoteShape) (f g : ExprShape) (w : Walked) → FirmForm f g → Firm 2 (node p o n f) (sited r p o n f g w)
-sited_firm r p o n f g w i = sites_firm (is_place f) (if is_read r then has_scalar n else false) (is_written r) w (node p o n f) (node p o n g) (place_tight f) (formed_firm p o n f g i)
+sited_firm r p o n f g w i = sites_firm (is_place f) (is_used r n) (is_written r) w (node p o n f) (node p o n g) (place_tight f) (formed_firm p o n f g i)
 
 -- ---- expressions
 
@@ -178,7 +178,7 @@ mutual
       record { shaped = (s.0, omega (arith, s.1, i.level), i.shaped, omega (arith, s.3, j.level), j.shaped); level = refl; height = omega (arith, i.height, j.height); chain = refl }
   form_firm c r p (two (assign u) a b) w none s =
       let i = node_firm c (left_taken u) a w (none_first (node_mark a) (node_mark b) none) s.2 in
-      let j = node_firm c Read b (walk_node c (left_taken u) a w) (none_second (node_mark a) (node_mark b) none) s.4 in
+      let j = node_firm c (right_taken u a) b (walk_node c (left_taken u) a w) (none_second (node_mark a) (node_mark b) none) s.4 in
       record { shaped = (s.0, omega (arith, s.1, i.level), i.shaped, omega (arith, s.3, j.level), j.shaped); level = refl; height = omega (arith, i.height, j.height); chain = refl }
   form_firm c r p (two (plain u) a b) w none s =
       let i = node_firm c Read a w (none_first (node_mark a) (node_mark b) none) s.2 in

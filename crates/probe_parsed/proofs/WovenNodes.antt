@@ -17,9 +17,9 @@ use Rattle.c_walk.specs.declared.around.Around.{Around}
 use Rattle.c_walk.specs.declared.around.Taken.{Taken}
 use Rattle.c_walk.specs.declared.around.Taken.TheVariants.{Read, Changed}
 use Rattle.c_walk.specs.Items.{Direct, def as a_def, used as a_use, cases}
-use Rattle.c_walk.specs.Places.{is_place, has_scalar, direct_form}
+use Rattle.c_walk.specs.Places.{is_place, direct_form}
 use Rattle.c_walk.specs.Tests.{is_logical_form, choosing, case_values}
-use Rattle.c_walk.specs.Walked.{Walked, is_read, is_written, operand_taken, left_taken, with_block, pos_of, inside, inside_test, with_decision, next_decision, with_test, with_def, with_use, with_site}
+use Rattle.c_walk.specs.Walked.{Walked, is_written, operand_taken, left_taken, with_block, pos_of, inside, inside_test, with_decision, next_decision, with_test, with_def, with_use, with_site, right_taken, is_used}
 use Rattle.c_walk.specs.Walking.{walk_node, walk_form, walk_test, walk_arm, walk_nodes, walk_maybe, walk_maybe_test, walk_step}
 use Rattle.c_walk.specs.Stating.{walk_choice}
 use Rattle.c_sites_probes.specs.Marked.{first, node_mark, form_mark, nodes_mark, maybe_mark, type_mark}
@@ -103,7 +103,7 @@ sites_woven true x y c p d w a few i =
     def_woven y c p d w (in_use x w a) (few_use x c p d v few) (use_woven x w a (λ e. omega (arith, few_uses x c p d v e few, uses_behind y c p d w)) i)
 
 sited_woven : (c : Around) (r : Taken) (p o : Pos) (n : NoteShape) (f g : ExprShape) (w : Walked) {ks : List TokenKind} → HasFewItems (with_site c r p n f w) → Woven ks (kinds (expr_form o g)) → Woven ks (kinds (node_form (sited r p o n f g w)))
-sited_woven c r p o n f g w few i = sites_woven (is_place f) (if is_read r then has_scalar n else false) (is_written r) c p (direct_form n f) w (node p o n g) few i
+sited_woven c r p o n f g w few i = sites_woven (is_place f) (is_used r n) (is_written r) c p (direct_form n f) w (node p o n g) few i
 
 -- ---- expressions
 
@@ -139,8 +139,9 @@ mutual
       (kept (kind.Mark (infix_mark or)) (right_woven c b v (none_second (node_mark a) (node_mark b) none) few))
   form_woven c r p o (two (assign u) a b) w none few =
       let v = walk_node c (left_taken u) a w in
-      both (node_woven c (left_taken u) a w (none_first (node_mark a) (node_mark b) none) (few_before (node_on c Read b v) few))
-      (kept (kind.Mark (infix_mark (assign u))) (node_woven c Read b v (none_second (node_mark a) (node_mark b) none) few))
+      let q = right_taken u a in
+      both (node_woven c (left_taken u) a w (none_first (node_mark a) (node_mark b) none) (few_before (node_on c q b v) few))
+      (kept (kind.Mark (infix_mark (assign u))) (node_woven c q b v (none_second (node_mark a) (node_mark b) none) few))
   form_woven c r p o (two (plain u) a b) w none few =
       let v = walk_node c Read a w in
       both (node_woven c Read a w (none_first (node_mark a) (node_mark b) none) (few_before (node_on c Read b v) few))

@@ -18,7 +18,7 @@ use Rattle.c_tree.specs.Complaints.{declared_twice, not_constant, stray, wrong_t
 use Rattle.c_tree.specs.State.{State, steps, step, complain, demand, is_clean, is_set, field_type}
 use Rattle.c_tree.specs.Rulings.{by, rule, kind_at, of_kind, whole, sized}
 use Rattle.c_tree.specs.Sorts.{Formed, formed, TypedNode, TypedType, noted, pos_in, changeable}
-use Rattle.c_tree.specs.Operators.{Called, Given, given_at, claim, called, typed_call, typed_paren, typed_unary, typed_step, heard, hushed, typed_size, typed_type_size, typed_cast, typed_index, typed_field, typed_infix, typed_choice, typed_probe, typed_select, constant_rule, place_rule, unary_rule, step_rule, choice_rule, element_rule, holder, field_rule, probe_rule, select_rule}
+use Rattle.c_tree.specs.Operators.{Called, Given, given_at, claim, called, typed_call, typed_paren, typed_unary, typed_step, heard, hushed, typed_size, typed_type_size, typed_cast, typed_index, typed_field, typed_infix, typed_choice, typed_probe, typed_select, constant_rule, place_rule, unary_rule, step_rule, choice_rule, element_rule, holder, field_rule, probe_rule, select_rule, left_of, right_of, sided, entering}
 use Rattle.c_tree.specs.Parts.{Length, length_of, left_out, length_rule, judged_length, TypedNodes, one_more, TypedCases, one_case, judged_constant, TypedLengths, open_length, one_length, pointed, star_tokens, arrays_of, Spelled, unspelled, with_word, with_tagged, static_fits, spelled_rule, more_spec, TypedSpecs, TypedSpec, Opened, opened, known_structure, listed_structure, begun_at, tag_tokens, closed, structure_kind, kind_if, within, outside, TypedDecls, TypedNames, is_free, with_field, field_state, TypedRows, Valued, value_rule, passes, only_int, entity_of, declared_at, declare, after, known_enumeration, listed_enumeration, enumeration}
 use Rattle.c_tree.specs.Typing.{opening, type_node, type_form, type_arguments, type_cases, type_type, type_lengths, type_specs, type_struct, type_lines, type_fields, type_enum, rows_types, type_value}
 use Rattle.probe_rules.proofs.Grows.{◌▸◌, rule_grows, typed_call_grows, infix_grows, closed_grows, field_grows, declared_grows, node_grows, arguments_grows, cases_grow, lengths_grow, specs_grow, lines_grow, fields_grow, rows_grow}
@@ -180,7 +180,7 @@ row_of x token rest r = row_end x r.node (rows_types (after r.value) rest (step 
 
 mutual
   pub node_typed : (a : NodeShape) (s : State) → IsClean (type_node a s).state → type_node a (first_pass s) ≡ first_typed (type_node a s)
-  node_typed (node p o n f) s c = ap (noted p o (first_pass s)) (form_typed p o f s c)
+  node_typed (node p o n f) s c = ap (noted p o (first_pass s)) (form_typed p o f (entering f s) c)
 
   form_typed : (p o : Pos) (f : ExprShape) (s : State) → IsClean (type_form p o f s).state → type_form p o f (first_pass s) ≡ first_formed (type_form p o f s)
   form_typed p o (leaf (number t)) s c = ap (formed (leaf (number t))) (numbered p t s)
@@ -245,11 +245,13 @@ mutual
       ap (λ v. formed (suffix v.node (behind u)) (typed_step v.state.at o s.at (pos_in a) v.sort (step v.state))) (node_typed a s late)
       ∙ ap (formed (suffix t.node (behind u))) (step_typed t.state.at o s.at (pos_in a) t.sort (step t.state))
   form_typed p o (two u a b) s c =
-      let t = type_node a s in
-      let v = type_node b (step t.state) in
+      let l = sided (left_of u) s in
+      let t = type_node a l in
+      let r = sided (right_of u t.sort.kind) (step t.state) in
+      let v = type_node b r in
       let late = infix_grows t.state.at o s.at (pos_in a) u t.sort v.sort v.state ▸ c in
-      ap (λ x. let y = type_node b (step x.state) in formed (two u x.node y.node) (typed_infix x.state.at o s.at (pos_in a) u x.sort y.sort y.state)) (node_typed a s (node_grows b (step t.state) ▸ late))
-      ∙ (ap (λ y. formed (two u t.node y.node) (typed_infix t.state.at o s.at (pos_in a) u t.sort y.sort y.state)) (node_typed b (step t.state) late)
+      ap (λ x. let y = type_node b (sided (right_of u x.sort.kind) (step x.state)) in formed (two u x.node y.node) (typed_infix x.state.at o s.at (pos_in a) u x.sort y.sort y.state)) (node_typed a l (node_grows b r ▸ late))
+      ∙ (ap (λ y. formed (two u t.node y.node) (typed_infix t.state.at o s.at (pos_in a) u t.sort y.sort y.state)) (node_typed b r late)
       ∙ ap (formed (two u t.node v.node)) (infix_typed t.state.at o s.at (pos_in a) u t.sort v.sort v.state))
   form_typed p o (choose a b e) s c =
       let t = type_node a s in
@@ -264,9 +266,9 @@ mutual
   form_typed p o (probe (simple u x) a) s c =
       let d = steps 4 (claim u x s.at p s) in
       let t = type_node a d in
-      ap (λ w. let v = type_node a (steps 4 w) in formed (probe (simple u x) v.node) (typed_probe s.at p u v.sort v.state)) (number_taken u x s.at p s)
-      ∙ (ap (λ v. formed (probe (simple u x) v.node) (typed_probe s.at p u v.sort v.state)) (node_typed a d (rule_grows (probe_rule u t.sort) s.at p t.state ▸ c))
-      ∙ ap (formed (probe (simple u x) t.node)) (probe_typed s.at p u t.sort t.state))
+      ap (λ w. let v = type_node a (steps 4 w) in formed (probe (simple u x) v.node) (typed_probe s.at p u s.side v.sort v.state)) (number_taken u x s.at p s)
+      ∙ (ap (λ v. formed (probe (simple u x) v.node) (typed_probe s.at p u s.side v.sort v.state)) (node_typed a d (rule_grows (probe_rule u s.side t.sort) s.at p t.state ▸ c))
+      ∙ ap (formed (probe (simple u x) t.node)) (probe_typed s.at p u s.side t.sort t.state))
   form_typed p o (probe (select x cs) a) s c =
       let d = steps 3 (claim test x s.at p s) in
       let t = type_cases [] cs d in

@@ -14,6 +14,7 @@ use Rattle.c_tables.specs.Rows.{row}
 use Rattle.c_tables.specs.Tables.{FunctionShape, VariableShape}
 use Rattle.c_tree.specs.declared.meaning.Entity.{Entity}
 use Rattle.c_tree.specs.declared.meaning.Entity.TheVariants as entity
+use Rattle.c_tree.specs.declared.meaning.Side.{Side}
 use Rattle.c_tree.specs.Complaints.{undefined, wrong_arg_count, wrong_type}
 use Rattle.c_tree.specs.State.{State, step, complaint, complain, demand, Numbered, numbered_or, mention, function_number, pushed_function, counts}
 use Rattle.c_tree.specs.Rulings.{Ruled, allowed, unsettled, refused, by, rule, kind_at, of_kind, whole}
@@ -203,8 +204,8 @@ number_claimed u x token p None (Some m) s = refl
 pub number_taken : (u : Probing) (x : Text) (token : ℕ) (p : Pos) (s : State) → claim u x token p (first_pass s) ≡ first_pass (claim u x token p s)
 number_taken u x token p s = number_claimed u x token p (probe_number_of x) (named x (seen_of u s.seen)) s
 
-pub probe_typed : (token : ℕ) (p : Pos) (u : Probing) (a : Sort) (s : State) → typed_probe token p u a (first_pass s) ≡ first_outcome (typed_probe token p u a s)
-probe_typed token p u a s = rule_and_step _ _ token p s
+pub probe_typed : (token : ℕ) (p : Pos) (u : Probing) (d : Side) (a : Sort) (s : State) → typed_probe token p u d a (first_pass s) ≡ first_outcome (typed_probe token p u d a s)
+probe_typed token p u d a s = rule_and_step _ _ token p s
 
 pub select_typed : (token : ℕ) (p : Pos) (clean : Bool) (vs : List (Option ℤ)) (a : Sort) (s : State) → typed_select token p clean vs a (first_pass s) ≡ first_outcome (typed_select token p clean vs a s)
 select_typed token p clean vs a s = rule_and_step _ _ token p s

@@ -8,9 +8,9 @@ use Rattle.c_walk.specs.declared.around.Around.{Around}
 use Rattle.c_walk.specs.declared.around.Taken.{Taken}
 use Rattle.c_walk.specs.declared.around.Taken.TheVariants.{Read, Changed}
 use Rattle.c_walk.specs.Items.{cases}
-use Rattle.c_walk.specs.Places.{is_place, has_scalar}
+use Rattle.c_walk.specs.Places.{is_place}
 use Rattle.c_walk.specs.Tests.{is_logical_form, choosing, case_values}
-use Rattle.c_walk.specs.Walked.{Walked, is_read, is_written, operand_taken, left_taken, with_block, pos_of, inside, inside_test, with_decision, with_test, with_site}
+use Rattle.c_walk.specs.Walked.{Walked, is_used, is_written, operand_taken, left_taken, with_block, pos_of, inside, inside_test, with_decision, with_test, with_site, right_taken}
 use Rattle.c_walk.specs.Walking.{walk_node, walk_test, walk_arm}
 use Rattle.c_sites_probes.specs.Marked.{first, node_mark, form_mark, nodes_mark, maybe_mark, type_mark}
 use Rattle.probe_rules.specs.Marks.{round_value, round_place, in_block, in_test, in_use, in_def, in_select}
@@ -52,9 +52,9 @@ pick_erased false a d e = refl
 
 sited_erased : (r : Taken) (p o : Pos) (n : NoteShape) (f g : ExprShape) (w : Walked) → erased_node (sited r p o n f g w) ≡ erased_form p o n g
 sited_erased r p o n f g w =
-    let b = if is_read r then has_scalar n else false in
+    let b = is_used r n in
     let d = node p o n g in
-    pick_erased (is_place f) (in_sites r (has_scalar n) w d) d (def_erased (is_written r) w (in_use b w d) ∙ use_erased b w d)
+    pick_erased (is_place f) (in_sites r (is_used r n) w d) d (def_erased (is_written r) w (in_use b w d) ∙ use_erased b w d)
 
 -- ---- tests and blocks
 
@@ -98,7 +98,7 @@ mutual
   form_erased c r p o n (two or a b) w none =
       both_plain (λ x y. node p o n (two or x y)) (node_mark a) (node_mark b) none (λ e. tested_erased c a w (λ d v. node_erased d Read a v e)) (λ e. right_erased c b (walk_test c a w) (λ d v. node_erased d Read b v e))
   form_erased c r p o n (two (assign u) a b) w none =
-      both_plain (λ x y. node p o n (two (assign u) x y)) (node_mark a) (node_mark b) none (λ e. node_erased c (left_taken u) a w e) (λ e. node_erased c Read b (walk_node c (left_taken u) a w) e)
+      both_plain (λ x y. node p o n (two (assign u) x y)) (node_mark a) (node_mark b) none (λ e. node_erased c (left_taken u) a w e) (λ e. node_erased c (right_taken u a) b (walk_node c (left_taken u) a w) e)
   form_erased c r p o n (two (plain u) a b) w none =
       both_plain (λ x y. node p o n (two (plain u) x y)) (node_mark a) (node_mark b) none (λ e. node_erased c Read a w e) (λ e. node_erased c Read b (walk_node c Read a w) e)
   form_erased c r p o n (two comma a b) w none =

@@ -5,11 +5,11 @@ use Rattle.c_base.specs.declared.place.Pos.{Pos}
 use Rattle.c_syntax.specs.Shape.{NoteShape, unary, before, size_of, plain, and, or, assign, comma, NodeShape, ExprShape, leaf, paren, call, prefix, size_of_type, cast, suffix, two, choose, probe, index, field, behind, NodeShapes, no_nodes, more_nodes}
 use Rattle.c_walk.specs.declared.around.Around.{Around}
 use Rattle.c_walk.specs.declared.around.Taken.{Taken}
-use Rattle.c_walk.specs.declared.around.Taken.TheVariants.{Read, Written, Changed}
+use Rattle.c_walk.specs.declared.around.Taken.TheVariants.{Read, Written, Changed, Copied}
 use Rattle.c_walk.specs.Items.{Direct, Item, Outcomes, block, decision, def, used}
-use Rattle.c_walk.specs.Places.{is_place, has_scalar, direct_form}
+use Rattle.c_walk.specs.Places.{is_place, has_scalar, direct_form, has_structure}
 use Rattle.c_walk.specs.Tests.{is_logical_form, outcomes_of_form}
-use Rattle.c_walk.specs.Walked.{Walked, with_item, with_test, with_block, with_decision, next_decision, pos_of, operand_taken, left_taken, with_def, with_use, with_sites, with_site}
+use Rattle.c_walk.specs.Walked.{Walked, with_item, with_test, with_block, with_decision, next_decision, pos_of, operand_taken, left_taken, right_taken, with_def, with_use, with_sites, with_site}
 use Rattle.c_walk.specs.Walking.{walk_node, walk_form, walk_test, walk_arm, walk_nodes}
 use Rattle.c_walk.specs.Counted.{block_count, def_count, use_count}
 use Rattle.c_meaning.specs.Counts.{IsBefore}
@@ -83,10 +83,15 @@ pub few_read : (c : Around) (p : Pos) (n : NoteShape) (f : ExprShape) (w : Walke
 few_read c p n f w place scalar few =
     few_uses (has_scalar n) c p (direct_form n f) w scalar (subst (λ b. HasFewItems (if b then with_sites c Read p (direct_form n f) (has_scalar n) w else w)) place few)
 
+-- one of a structure that is copied
+pub few_copied : (c : Around) (p : Pos) (n : NoteShape) (f : ExprShape) (w : Walked) → is_place f ≡ true → has_structure n ≡ true → HasFewItems (with_site c Copied p n f w) → use_count w.items < 16383
+few_copied c p n f w place structure few =
+    few_uses (has_structure n) c p (direct_form n f) w structure (subst (λ b. HasFewItems (if b then with_sites c Copied p (direct_form n f) (has_structure n) w else w)) place few)
+
 -- one that is written
 pub few_written : (c : Around) (p : Pos) (n : NoteShape) (f : ExprShape) (w : Walked) → is_place f ≡ true → HasFewItems (with_site c Written p n f w) → def_count w.items < 16383
 few_written c p n f w place few =
-    few_defs p c.function (direct_form n f) w (subst (λ b. HasFewItems (if b then with_sites c Written p (direct_form n f) (has_scalar n) w else w)) place few)
+    few_defs p c.function (direct_form n f) w (subst (λ b. HasFewItems (if b then with_sites c Written p (direct_form n f) false w else w)) place few)
 
 -- one that is changed
 pub few_changed : (c : Around) (p : Pos) (n : NoteShape) (f : ExprShape) (w : Walked) → is_place f ≡ true → HasFewItems (with_site c Changed p n f w) → def_count w.items < 16383
@@ -129,7 +134,7 @@ form_before c r (suffix a (field h x q)) w = node_on c Read a w
 form_before c r (suffix a (behind u)) w = node_on c Changed a w
 form_before c r (two and a b) w = let v = walk_test c a w in on_further w v (walk_test c b (with_block (pos_of b) v)) (test_node_on c a w) (right_before c a b w)
 form_before c r (two or a b) w = let v = walk_test c a w in on_further w v (walk_test c b (with_block (pos_of b) v)) (test_node_on c a w) (right_before c a b w)
-form_before c r (two (assign u) a b) w = let v = walk_node c (left_taken u) a w in on_further w v (walk_node c Read b v) (node_on c (left_taken u) a w) (node_on c Read b v)
+form_before c r (two (assign u) a b) w = let v = walk_node c (left_taken u) a w in on_further w v (walk_node c (right_taken u a) b v) (node_on c (left_taken u) a w) (node_on c (right_taken u a) b v)
 form_before c r (two (plain u) a b) w = let v = walk_node c Read a w in on_further w v (walk_node c Read b v) (node_on c Read a w) (node_on c Read b v)
 form_before c r (two comma a b) w = let v = walk_node c Read a w in on_further w v (walk_node c Read b v) (node_on c Read a w) (node_on c Read b v)
 form_before c r (choose a b d) w =

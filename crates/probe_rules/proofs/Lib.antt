@@ -12,6 +12,7 @@ pub mod GrowsUnits
 pub mod Moved
 pub mod Claims
 pub mod Told
+pub mod Copied
 pub mod Few
 pub mod Rounds
 pub mod Loops

@@ -24,11 +24,12 @@ use Rattle.c_tree.specs.State.{Seen, State, step, steps, complain, demand, count
 use Rattle.c_tables.specs.Rows.{row, text_of, name_pos}
 use Rattle.c_tree.specs.Rulings.{Ruled, allowed, unsettled, refused, by, rule, kind_at, of_kind, whole, sized}
 use Rattle.c_tree.specs.Sorts.{Sort, plainly, TypedType, pos_in, null, Typing, Outcome, Formed, TypedNode, formed, noted, note_of, node_sort, cleared, changeable}
-use Rattle.c_tree.specs.Operators.{has_value, given_at, named_variable, named_parameter, named_entity, typed_string, string_type, unary_rule, step_rule, plain_rule, assigned_rule, choice_rule, element_rule, field_rule, field_constant, heard, held_field, Called, called_entity, called_builtin, Given, fit_all, judged, call_of, typed_call, place_rule, typed_unary, typed_step, typed_size, typed_type_size, typed_cast, left_side, typed_infix, typed_choice, typed_index, typed_field, holder}
+use Rattle.c_tree.specs.Operators.{has_value, given_at, named_variable, named_parameter, named_entity, typed_string, string_type, unary_rule, step_rule, plain_rule, assigned_rule, choice_rule, element_rule, field_rule, field_constant, heard, held_field, Called, called_entity, called_builtin, Given, fit_all, judged, call_of, typed_call, place_rule, typed_unary, typed_step, typed_size, typed_type_size, typed_cast, left_side, typed_infix, typed_choice, typed_index, typed_field, holder, left_of, right_of, sided, kept_side, entering}
 use Rattle.c_tree.specs.Parts.{TypedNodes, TypedLengths, TypedSpecs, TypedSpec, TypedDecls, TypedNames, TypedRows, Length, left_out, length_of, length_rule, Spelled, unspelled, with_word, with_tagged, static_fits, spelled_rule, star_tokens, pointed, arrays_of, tag_tokens, structure_kind, kind_if, is_free, with_field, only_int, passes, value_rule, entity_of, after, Opened, twice, known_structure, listed_structure, opened, begun_at, closed, outside, field_state, Valued, declared_at, declare, enumeration, known_enumeration, listed_enumeration}
 use Rattle.c_sites_probes.specs.Marked.{first, mark_in, name_mark, node_mark, form_mark, nodes_mark, maybe_mark, lengths_mark, type_mark, specs_mark, members_mark, rows_mark, enumers_mark, decls_mark, declarators_mark, params_mark, maybe_init_mark}
 use Rattle.c_tree.specs.Typing.{opening, type_node, type_form, type_arguments, type_type, type_lengths, type_specs, type_struct, type_lines, type_fields, type_enum, rows_types, type_value}
 use Rattle.probe_rules.proofs.ReadyUnits.{some_none, none_first, none_second}
+use Rattle.c_tree.specs.declared.meaning.Side.{Side}
 
 three : {A B C D : Type 0} (k : A → B → C → D) {a b : A} {c d : B} {e f : C} → a ≡ b → c ≡ d → e ≡ f → k a c e ≡ k b d f
 three k {a} {b} {c} {d} {e} {f} p q r = ap (λ x. k x c e) p ∙ ap₂ (k b) q r
@@ -328,6 +329,12 @@ module _ (n m : ℕ) (seen : Seen) where
   pub quiet_alike : (quiet quiet' : Bool) {s t : State} → quiet' ≡ quiet → Alike s t → Alike (heard quiet s) (heard quiet' t)
   quiet_alike quiet quiet' {s} {t} e al = subst (λ y. Alike (heard quiet s) (heard y t)) (sym e) (record { at = al.at; complaints = al.complaints; is = ap (heard quiet) al.is; count = al.count })
 
+  pub sided_alike : (d d' : Side) {s t : State} → d' ≡ d → Alike s t → Alike (sided d s) (sided d' t)
+  sided_alike d d' {s} {t} e al = subst (λ y. Alike (sided d s) (sided y t)) (sym e) (record { at = al.at; complaints = al.complaints; is = ap (sided d) al.is; count = al.count })
+
+  pub entering_alike : (f : ExprShape) {s t : State} → Alike s t → Alike (entering f s) (entering f t)
+  entering_alike f {s} {t} al = sided_alike (kept_side f s.side) (kept_side f t.side) (ap (λ (z : State). kept_side f z.side) al.is) al
+
   pub field_state_alike : (token token' : ℕ) (p : Pos) (free free' : Bool) (k k' : Option TypeOf) {s t : State} → free' ≡ free → k' ≡ k → Alike s t → Alike (field_state token p free k s) (field_state token' p free' k' t)
   field_state_alike token token' p free free' k k' {s} {t} e d al = subst (λ y. Alike (field_state token p free k s) (field_state token' p y k' t)) (sym e) (subst (λ z. Alike (field_state token p free k s) (field_state token' p free z t)) (sym d)
       (on_moved (λ z. Alike (field_state token p free k s) (field_state token' p free k z)) al (λ a cs i. rule_alike (of_kind k (whole s.rooms)) token token' p p (demand_alike free 31 token token' p (moves s a cs i)))))
@@ -423,7 +430,7 @@ module _ (n m : ℕ) (seen : Seen) where
 
   mutual
     pub node_alike : (a : NodeShape) → node_mark a ≡ None → {s t : State} → Alike s t → AlikeNode (type_node a s) (type_node a t)
-    node_alike (node p o k f) none {s} {t} al = noted_alike p o s t (type_form p o f s) (type_form p o f t) al (form_alike p o f none al)
+    node_alike (node p o k f) none {s} {t} al = noted_alike p o s t (type_form p o f (entering f s)) (type_form p o f (entering f t)) al (form_alike p o f none (entering_alike f al))
 
     form_alike : (p o : Pos) (f : ExprShape) → form_mark p f ≡ None → {s t : State} → Alike s t → AlikeFormed (type_form p o f s) (type_form p o f t)
     form_alike p o (leaf (number x)) none {s} {t} al = formed_alike _ _ _ _ refl (record { typing = refl; state = steps_alike 1 (demand_alike (has_value (number_of x)) 33 s.at t.at p al) })
@@ -464,9 +471,9 @@ module _ (n m : ℕ) (seen : Seen) where
         let i = node_alike a (none_first (node_mark a) None none) al in
         formed_alike _ _ _ _ (ap (λ z. suffix z (behind u)) i.node) (step_alike (type_node a s).state.at (type_node a t).state.at o s.at t.at (pos_in a) _ _ i.sort (steps_alike 1 i.state))
     form_alike p o (two u a b) none {s} {t} al =
-        let i = node_alike a (none_first (node_mark a) (node_mark b) none) al in
-        let j = node_alike b (none_second (node_mark a) (node_mark b) none) (steps_alike 1 i.state) in
-        formed_alike _ _ _ _ (ap₂ (two u) i.node j.node) (infix_alike (type_node a s).state.at (type_node a t).state.at o s.at t.at (pos_in a) u _ _ _ _ i.sort j.sort j.state)
+        let i = node_alike a (none_first (node_mark a) (node_mark b) none) (sided_alike (left_of u) (left_of u) refl al) in
+        let j = node_alike b (none_second (node_mark a) (node_mark b) none) (sided_alike _ _ (ap (λ (z : Sort). right_of u z.kind) i.sort) (steps_alike 1 i.state)) in
+        formed_alike _ _ _ _ (ap₂ (two u) i.node j.node) (infix_alike (type_node a (sided (left_of u) s)).state.at (type_node a (sided (left_of u) t)).state.at o s.at t.at (pos_in a) u _ _ _ _ i.sort j.sort j.state)
     form_alike p o (choose a b c) none {s} {t} al =
         let rest = none_second (node_mark a) (first (node_mark b) (node_mark c)) none in
         let i = node_alike a (none_first (node_mark a) (first (node_mark b) (node_mark c)) none) al in

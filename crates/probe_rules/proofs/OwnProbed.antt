@@ -9,9 +9,9 @@ use Rattle.c_walk.specs.declared.around.Around.{Around}
 use Rattle.c_walk.specs.declared.around.Taken.{Taken}
 use Rattle.c_walk.specs.declared.around.Taken.TheVariants.{Read, Changed}
 use Rattle.c_walk.specs.Items.{Direct, Item, Outcomes, block as a_block, decision, def, used, cases}
-use Rattle.c_walk.specs.Places.{is_place, has_scalar, direct_form}
+use Rattle.c_walk.specs.Places.{is_place, direct_form}
 use Rattle.c_walk.specs.Tests.{is_logical_form, outcomes_of_form, choosing, case_values}
-use Rattle.c_walk.specs.Walked.{Walked, with_item, is_read, is_written, operand_taken, left_taken, with_block, pos_of, inside, inside_test, next_decision, with_decision, with_test, with_def, with_use, with_sites, with_site}
+use Rattle.c_walk.specs.Walked.{Walked, with_item, is_used, is_written, operand_taken, left_taken, with_block, pos_of, inside, inside_test, next_decision, with_decision, with_test, with_def, with_use, with_sites, with_site, right_taken}
 use Rattle.c_walk.specs.Walking.{walk_node, walk_form, walk_test, walk_arm, walk_nodes, walk_maybe, walk_loop_test, walk_maybe_test, walk_step}
 use Rattle.c_walk.specs.Stating.{walk_choice}
 use Rattle.c_sites_probes.specs.Marked.{first, node_mark, form_mark, nodes_mark, maybe_mark, type_mark}
@@ -92,8 +92,8 @@ pick_own false o p q n g a w v few go = refl
 
 sited_own : (c : Around) (r : Taken) (p q : Pos) (n : NoteShape) (f g : ExprShape) (w : Walked) → HasFewItems (with_site c r p n f w) → own_node c.owner (sited r p q n f g w) (found w) ≡ own_form c.owner g (found (with_site c r p n f w))
 sited_own c r p q n f g w few =
-    pick_own (is_place f) c.owner p q n g (in_sites r (has_scalar n) w (node p q n g)) w (with_sites c r p (direct_form n f) (has_scalar n) w) few (λ few.
-    sites_own (is_written r) (if is_read r then has_scalar n else false) c p q n g (direct_form n f) w few)
+    pick_own (is_place f) c.owner p q n g (in_sites r (is_used r n) w (node p q n g)) w (with_sites c r p (direct_form n f) (is_used r n) w) few (λ few.
+    sites_own (is_written r) (is_used r n) c p q n g (direct_form n f) w few)
 
 -- ---- tests and blocks
 
@@ -156,7 +156,8 @@ mutual
       ∙ right_own c b v (λ d u few. node_own d Read b u (none_second (node_mark a) (node_mark b) none) few) few
   form_own c r p (two (assign u) a b) w none few =
       let v = walk_node c (left_taken u) a w in
-      ap (own_node c.owner (probed_node c Read b v)) (node_own c (left_taken u) a w (none_first (node_mark a) (node_mark b) none) (few_before (node_on c Read b v) few)) ∙ node_own c Read b v (none_second (node_mark a) (node_mark b) none) few
+      let r = right_taken u a in
+      ap (own_node c.owner (probed_node c r b v)) (node_own c (left_taken u) a w (none_first (node_mark a) (node_mark b) none) (few_before (node_on c r b v) few)) ∙ node_own c r b v (none_second (node_mark a) (node_mark b) none) few
   form_own c r p (two (plain u) a b) w none few =
       let v = walk_node c Read a w in
       ap (own_node c.owner (probed_node c Read b v)) (node_own c Read a w (none_first (node_mark a) (node_mark b) none) (few_before (node_on c Read b v) few)) ∙ node_own c Read b v (none_second (node_mark a) (node_mark b) none) few

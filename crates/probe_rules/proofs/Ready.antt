@@ -5,7 +5,7 @@ use Rattle.c_syntax.specs.declared.tree.ProbeMark.{ProbeMark}
 use Rattle.c_syntax.specs.Shape.{NoteShape, unary, before, size_of, plain, and, or, assign, comma, NodeShape, node, ExprShape, leaf, paren, call, prefix, size_of_type, cast, suffix, two, choose, probe, index, field, behind, NodeShapes, no_nodes, more_nodes, MaybeNode, no_node, one_node, DeclShape, decl, DeclShapes, no_decls, more_decls, DeclaratorShape, declarator, DeclaratorShapes, no_declarators, more_declarators, DeclFormShape, arrays, function, ParamsShape, empty, void, params, MaybeInit, no_init, one_init, InitShape, one, listed, LabelShape, case, default, StmtShape, stmt, FormShape, compound, simply, when, either, while, do_while, for, switch, break, continue, return, CompoundShape, braces, ItemShapes, no_items, more_items, ExternalShape, defined, declared, UnitShape}
 use Rattle.c_walk.specs.declared.around.Taken.{Taken}
 use Rattle.c_walk.specs.declared.around.Taken.TheVariants.{Read, Changed}
-use Rattle.c_walk.specs.Walked.{operand_taken, left_taken}
+use Rattle.c_walk.specs.Walked.{operand_taken, left_taken, right_taken}
 use Rattle.probe_rules.specs.Fitting.{Suits, IsFitLeaf}
 
 -- ---- expressions
@@ -27,7 +27,7 @@ abbrev mutual
   HasReadyParts r n (suffix a (index b)) = IsReady Read a × IsReady Read b
   HasReadyParts r n (suffix a (field h x q)) = IsReady Read a
   HasReadyParts r n (suffix a (behind u)) = IsReady Changed a
-  HasReadyParts r n (two (assign u) a b) = IsReady (left_taken u) a × IsReady Read b
+  HasReadyParts r n (two (assign u) a b) = IsReady (left_taken u) a × IsReady (right_taken u a) b
   HasReadyParts r n (two (plain u) a b) = IsReady Read a × IsReady Read b
   HasReadyParts r n (two and a b) = IsReady Read a × IsReady Read b
   HasReadyParts r n (two or a b) = IsReady Read a × IsReady Read b

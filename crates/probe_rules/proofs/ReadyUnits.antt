@@ -6,7 +6,7 @@ use Rattle.c_syntax.specs.declared.tree.ProbeMark.{ProbeMark}
 use Rattle.c_syntax.specs.Shape.{NoteShape, number, char, str, name, unary, before, size_of, plain, and, or, assign, comma, NodeShape, node, ExprShape, leaf, paren, call, prefix, size_of_type, cast, suffix, two, choose, probe, index, field, behind, NodeShapes, no_nodes, more_nodes, MaybeNode, no_node, one_node, DeclShape, decl, DeclShapes, no_decls, more_decls, DeclaratorShape, declarator, DeclaratorShapes, no_declarators, more_declarators, DeclFormShape, arrays, function, ParamsShape, empty, void, params, MaybeInit, no_init, one_init, InitShape, one, listed, LabelShape, case, default, StmtShape, stmt, FormShape, compound, simply, when, either, while, do_while, for, switch, break, continue, return, CompoundShape, braces, ItemShapes, no_items, more_items, ExternalShape, defined, declared, UnitShape}
 use Rattle.c_walk.specs.declared.around.Taken.{Taken}
 use Rattle.c_walk.specs.declared.around.Taken.TheVariants.{Read, Changed}
-use Rattle.c_walk.specs.Walked.{operand_taken, left_taken}
+use Rattle.c_walk.specs.Walked.{operand_taken, left_taken, right_taken}
 use Rattle.c_sites_probes.specs.Marked.{first, mark_in, name_mark, mark_among, node_mark, form_mark, nodes_mark, maybe_mark, decls_mark, decl_mark, declarators_mark, declarator_mark, behind_mark, params_mark, maybe_init_mark, init_mark, labels_mark, stmt_mark, body_mark, compound_mark, items_mark, external_mark, externals_mark, unit_mark, line_mark, type_mark, specs_mark, lengths_mark}
 use Rattle.probe_rules.specs.Fitting as fit
 use Rattle.probe_rules.proofs.Ready.{IsReady, HasReadyParts, AreReady, IsReadyMaybe, HasNoProbe, IsNamed, IsReadyInit, IsReadyVariable, IsReadyDeclarator, AreReadyDeclarators, IsReadyDecl, AreReadyDecls, IsDefined, AreDefined, IsDefining, AreDefining, AreReadyParams, IsReadySignature, HasNoMarks, AreReadyLabels, IsReadyStmt, IsReadyBody, IsReadyCompound, AreReadyItems, IsReadyExternal, AreReadyExternals, IsReadyUnit}
@@ -47,7 +47,7 @@ mutual
   form_ready r p n (suffix a (index b)) none is = (is.0, (node_ready Read a (none_first (node_mark a) (node_mark b) none) is.1.0, node_ready Read b (none_second (node_mark a) (node_mark b) none) is.1.1))
   form_ready r p n (suffix a (field h x q)) none is = (is.0, node_ready Read a (none_first (node_mark a) None none) is.1)
   form_ready r p n (suffix a (behind u)) none is = (is.0, node_ready Changed a (none_first (node_mark a) None none) is.1)
-  form_ready r p n (two (assign u) a b) none is = (is.0, (node_ready (left_taken u) a (none_first (node_mark a) (node_mark b) none) is.1.0, node_ready Read b (none_second (node_mark a) (node_mark b) none) is.1.1))
+  form_ready r p n (two (assign u) a b) none is = (is.0, (node_ready (left_taken u) a (none_first (node_mark a) (node_mark b) none) is.1.0, node_ready (right_taken u a) b (none_second (node_mark a) (node_mark b) none) is.1.1))
   form_ready r p n (two (plain u) a b) none is = (is.0, (node_ready Read a (none_first (node_mark a) (node_mark b) none) is.1.0, node_ready Read b (none_second (node_mark a) (node_mark b) none) is.1.1))
   form_ready r p n (two and a b) none is = (is.0, (node_ready Read a (none_first (node_mark a) (node_mark b) none) is.1.0, node_ready Read b (none_second (node_mark a) (node_mark b) none) is.1.1))
   form_ready r p n (two or a b) none is = (is.0, (node_ready Read a (none_first (node_mark a) (node_mark b) none) is.1.0, node_ready Read b (none_second (node_mark a) (node_mark b) none) is.1.1))

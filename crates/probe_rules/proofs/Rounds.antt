@@ -10,10 +10,10 @@ use Rattle.c_store.specs.declared.value.Pointer.{Pointer}
 use Rattle.c_tables.specs.Tables.{TablesShape}
 use Rattle.c_walk.specs.declared.around.Around.{Around}
 use Rattle.c_walk.specs.declared.around.Taken.{Taken}
-use Rattle.c_walk.specs.declared.around.Taken.TheVariants.{Read, Written, Changed}
-use Rattle.c_walk.specs.Places.{is_place, has_scalar}
+use Rattle.c_walk.specs.declared.around.Taken.TheVariants.{Read, Written, Changed, Copied}
+use Rattle.c_walk.specs.Places.{is_place, has_scalar, has_structure, holds_structure}
 use Rattle.c_walk.specs.Tests.{choosing}
-use Rattle.c_walk.specs.Walked.{Walked, is_read, is_written, with_site}
+use Rattle.c_walk.specs.Walked.{Walked, is_used, is_written, with_site}
 use Rattle.c_walk.specs.Walking.{walk_node}
 use Rattle.c_meaning.specs.State.{State}
 use Rattle.c_meaning.specs.Results.{Got, then_do, needed}
@@ -29,7 +29,7 @@ use Rattle.c_walk.specs.Counted.{next_def, next_use}
 use Rattle.probe_rules.specs.ProbedExpressions.{in_sites, sited, probed_node, probed_form}
 use Rattle.probe_rules.specs.Fitting.{HasFewItems}
 use Rattle.probe_rules.proofs.Ready.{IsReady}
-use Rattle.probe_rules.proofs.Few.{few_before, form_before, few_written, few_changed, few_changed_use}
+use Rattle.probe_rules.proofs.Few.{few_before, form_before, few_written, few_changed, few_changed_use, few_copied}
 use Rattle.probe_rules.proofs.Told.{as_log, with_log, sim_then, fetched_use, fetched_other}
 
 -- ---- types
@@ -53,9 +53,34 @@ pick_type false a d e = refl
 
 pub same_type : (c : Around) (r : Taken) (a : NodeShape) (w : Walked) → type_at (probed_node c r a w) ≡ type_at a
 same_type c r (node p o n f) w =
-    let b = if is_read r then has_scalar n else false in
+    let b = is_used r n in
     let d = node p o n (probed_form c r f (with_site c r p n f w)) in
-    pick_type (is_place f) (in_sites r (has_scalar n) w d) d (def_type (is_written r) w (in_use b w d) ∙ use_type b w d)
+    pick_type (is_place f) (in_sites r (is_used r n) w d) d (def_type (is_written r) w (in_use b w d) ∙ use_type b w d)
+
+-- ---- structures
+
+place_structure : (n : NoteShape) → has_structure (place_note n) ≡ has_structure n
+place_structure (typed k j) = refl
+place_structure (known k v) = refl
+place_structure bare = refl
+
+use_structure : (b : Bool) (w : Walked) (a : NodeShape) → holds_structure (in_use b w a) ≡ holds_structure a
+use_structure true w (node p o n f) = place_structure n
+use_structure false w a = refl
+
+def_structure : (b : Bool) (w : Walked) (a : NodeShape) → holds_structure (in_def b w a) ≡ holds_structure a
+def_structure true w (node p o n f) = place_structure n
+def_structure false w a = refl
+
+pick_structure : (b : Bool) (a d : NodeShape) → holds_structure a ≡ holds_structure d → holds_structure (if b then a else d) ≡ holds_structure d
+pick_structure true a d e = e
+pick_structure false a d e = refl
+
+pub same_structure : (c : Around) (r : Taken) (a : NodeShape) (w : Walked) → holds_structure (probed_node c r a w) ≡ holds_structure a
+same_structure c r (node p o n f) w =
+    let b = is_used r n in
+    let d = node p o n (probed_form c r f (with_site c r p n f w)) in
+    pick_structure (is_place f) (in_sites r b w d) d (def_structure (is_written r) w (in_use b w d) ∙ use_structure b w d)
 
 pub same_operand : (c : Around) (r : Taken) (a : NodeShape) (w : Walked) → operand (probed_node c r a w) ≡ operand a
 same_operand c r a w = ap decay (same_type c r a w)
@@ -78,9 +103,9 @@ module _ (t : TablesShape) (k : Knot) where
   -- a probed place is the place
   pub sited_place : (r : Taken) (p o : Pos) (n : NoteShape) (f g : ExprShape) (w : Walked) → (meaning t k (sited r p o n f g w)).place ≡ (form_meaning t k p n g).place
   sited_place r p o n f g w =
-      let b = if is_read r then has_scalar n else false in
+      let b = is_used r n in
       let d = node p o n g in
-      pick_place (is_place f) (in_sites r (has_scalar n) w d) d (def_place (is_written r) w (in_use b w d) ∙ use_place b w d)
+      pick_place (is_place f) (in_sites r (is_used r n) w d) d (def_place (is_written r) w (in_use b w d) ∙ use_place b w d)
 
   -- a block logs, and then its expression is evaluated
   pub block_value : (x : Text) (a : NodeShape) (i : First) (s : State) → (meaning t k (round_value (simple block x) a)).value i s ≡ logs log_block (x ∷ []) s ((meaning t k a).value i)
@@ -149,10 +174,14 @@ form_defs c r (two comma a b) w place = refl
 form_defs c r (choose a b d) w place = refl
 form_defs c r (probe u a) w place = absurd (true≢false (sym place))
 
--- what is written has one definition, and what is changed a use too
+-- what is written has one definition, what is copied one use, and what is changed both
 pub record IsWrittenAt (a : NodeShape) (w : Walked) : Type 0 where
   pub defs : marks def a ≡ decimal (next_def w) ∷ []
   pub few : def_count w.items < 16383
+
+pub record IsCopiedAt (a : NodeShape) (w : Walked) : Type 0 where
+  pub uses : marks used a ≡ decimal (next_use w) ∷ []
+  pub few : use_count w.items < 16383
 
 pub record IsChangedAt (a : NodeShape) (w : Walked) : Type 0 where
   pub defs : marks def a ≡ decimal (next_def w) ∷ []
@@ -165,8 +194,18 @@ written_site c p o n f w place few =
     let v = with_site c Written p n f w in
     let g = probed_form c Written f v in
     record {
-      defs = ap (λ b. marks def (if b then in_sites Written (has_scalar n) w (node p o n g) else node p o n g)) place ∙ ap (λ z. z ++ decimal (next_def w) ∷ []) (form_defs c Written f v place);
+      defs = ap (λ b. marks def (if b then in_sites Written false w (node p o n g) else node p o n g)) place ∙ ap (λ z. z ++ decimal (next_def w) ∷ []) (form_defs c Written f v place);
       few = few_written c p n f w place (few_before (form_before c Written f v) few);
+    }
+
+copied_site : (c : Around) (p o : Pos) (n : NoteShape) (f : ExprShape) (w : Walked) → is_place f ≡ true → has_structure n ≡ true → HasFewItems (walk_node c Copied (node p o n f) w) → IsCopiedAt (probed_node c Copied (node p o n f) w) w
+copied_site c p o n f w place structure few =
+    let v = with_site c Copied p n f w in
+    let g = probed_form c Copied f v in
+    let d = node p o n g in
+    record {
+      uses = ap (λ b. marks used (if b then in_sites Copied (has_structure n) w d else d)) place ∙ (ap (λ b. marks used (in_use b w d)) structure ∙ ap (λ z. z ++ decimal (next_use w) ∷ []) (form_uses c Copied f v place));
+      few = few_copied c p n f w place structure (few_before (form_before c Copied f v) few);
     }
 
 changed_site : (c : Around) (p o : Pos) (n : NoteShape) (f : ExprShape) (w : Walked) → is_place f ≡ true → has_scalar n ≡ true → HasFewItems (walk_node c Changed (node p o n f) w) → IsChangedAt (probed_node c Changed (node p o n f) w) w
@@ -193,6 +232,18 @@ written_at c (node p o n (suffix a u)) w clean few = written_site c p o n (suffi
 written_at c (node p o n (two u a b)) w clean few = absurd (true≢false (sym clean.0))
 written_at c (node p o n (choose a b d)) w clean few = absurd (true≢false (sym clean.0))
 written_at c (node p o n (probe u a)) w clean few = absurd clean.1
+
+pub copied_at : (c : Around) (a : NodeShape) (w : Walked) → IsReady Copied a → HasFewItems (walk_node c Copied a w) → IsCopiedAt (probed_node c Copied a w) w
+copied_at c (node p o n (paren a)) w clean few = let i = copied_at c a w clean.1 few in record { uses = i.uses; few = i.few }
+copied_at c (node p o n (leaf l)) w clean few = copied_site c p o n (leaf l) w clean.0.0 clean.0.1 few
+copied_at c (node p o n (call x args)) w clean few = absurd (true≢false (sym clean.0.0))
+copied_at c (node p o n (prefix u a)) w clean few = copied_site c p o n (prefix u a) w clean.0.0 clean.0.1 few
+copied_at c (node p o n (size_of_type y)) w clean few = absurd (true≢false (sym clean.0.0))
+copied_at c (node p o n (cast y a)) w clean few = absurd (true≢false (sym clean.0.0))
+copied_at c (node p o n (suffix a u)) w clean few = copied_site c p o n (suffix a u) w clean.0.0 clean.0.1 few
+copied_at c (node p o n (two u a b)) w clean few = absurd (true≢false (sym clean.0.0))
+copied_at c (node p o n (choose a b d)) w clean few = absurd (true≢false (sym clean.0.0))
+copied_at c (node p o n (probe u a)) w clean few = absurd clean.1
 
 pub changed_at : (c : Around) (a : NodeShape) (w : Walked) → IsReady Changed a → HasFewItems (walk_node c Changed a w) → IsChangedAt (probed_node c Changed a w) w
 changed_at c (node p o n (paren a)) w clean few = let i = changed_at c a w clean.1 few in record { defs = i.defs; uses = i.uses; few_defs = i.few_defs; few_uses = i.few_uses }

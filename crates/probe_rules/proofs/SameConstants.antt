@@ -15,9 +15,8 @@ use Rattle.c_constants.specs.Constants.{kind_of, value, given, with_one, with_tw
 use Rattle.c_walk.specs.declared.around.Around.{Around}
 use Rattle.c_walk.specs.declared.around.Taken.{Taken}
 use Rattle.c_walk.specs.declared.around.Taken.TheVariants.{Read, Addressed}
-use Rattle.c_walk.specs.Places.{has_scalar}
 use Rattle.c_walk.specs.Tests.{is_logical_form, noted_constant, cast_to}
-use Rattle.c_walk.specs.Walked.{Walked, is_read, is_written, pos_of, with_block, with_test, with_site, inside_test}
+use Rattle.c_walk.specs.Walked.{Walked, is_used, is_written, pos_of, with_block, with_test, with_site, inside_test}
 use Rattle.c_walk.specs.Walking.{walk_node, walk_test, walk_arm}
 use Rattle.c_meaning.specs.Constants.{constant, constant_form}
 use Rattle.probe_rules.specs.Marks.{value_note, place_note, in_block, in_test, in_use, in_def}
@@ -110,11 +109,11 @@ pub same_constant : (c : Around) (r : Taken) (a : NodeShape) (w : Walked) → Is
 same_constant c r (node p o n (leaf (number x))) w clean = refl
 same_constant c r (node p o n (leaf (char x))) w clean = refl
 same_constant c r (node p o n (leaf (str x))) w clean = refl
-same_constant c r (node p o n (leaf (name x))) w clean = site_constant (is_written r) (if is_read r then has_scalar n else false) w p o n (leaf (name x)) refl
+same_constant c r (node p o n (leaf (name x))) w clean = site_constant (is_written r) (is_used r n) w p o n (leaf (name x)) refl
 same_constant c r (node p o n (paren a)) w clean = ap (noted_constant n) (same_constant c r a w clean.1)
 same_constant c r (node p o n (call x args)) w clean = refl
 same_constant c r (node p o n (prefix (unary front.Deref) a)) w clean =
-    site_constant (is_written r) (if is_read r then has_scalar n else false) w p o n (prefix (unary front.Deref) (probed_node c Read a (with_site c r p n (prefix (unary front.Deref) a) w))) refl
+    site_constant (is_written r) (is_used r n) w p o n (prefix (unary front.Deref) (probed_node c Read a (with_site c r p n (prefix (unary front.Deref) a) w))) refl
 same_constant c r (node p o n (prefix (unary front.AddressOf) a)) w clean = ap (λ z. noted_constant n (constants.unary front.AddressOf z)) (same_constant c Addressed a w clean.1)
 same_constant c r (node p o n (prefix (unary front.Plus) a)) w clean = ap (λ z. noted_constant n (constants.unary front.Plus z)) (same_constant c Read a w clean.1)
 same_constant c r (node p o n (prefix (unary front.Minus) a)) w clean = ap (λ z. noted_constant n (constants.unary front.Minus z)) (same_constant c Read a w clean.1)
@@ -126,9 +125,9 @@ same_constant c r (node p o n (size_of_type y)) w clean = refl
 same_constant c r (node p o n (cast y a)) w clean = ap (λ z. noted_constant n (cast_to n z)) (same_constant c Read a w clean.1)
 same_constant c r (node p o n (suffix a (index b))) w clean =
     let u = with_site c r p n (suffix a (index b)) w in
-    site_constant (is_written r) (if is_read r then has_scalar n else false) w p o n (suffix (probed_node c Read a u) (index (probed_node c Read b (walk_node c Read a u)))) refl
+    site_constant (is_written r) (is_used r n) w p o n (suffix (probed_node c Read a u) (index (probed_node c Read b (walk_node c Read a u)))) refl
 same_constant c r (node p o n (suffix a (field h x q))) w clean =
-    site_constant (is_written r) (if is_read r then has_scalar n else false) w p o n (suffix (probed_node c Read a (with_site c r p n (suffix a (field h x q)) w)) (field h x q)) refl
+    site_constant (is_written r) (is_used r n) w p o n (suffix (probed_node c Read a (with_site c r p n (suffix a (field h x q)) w)) (field h x q)) refl
 same_constant c r (node p o n (suffix a (behind u))) w clean = refl
 same_constant c r (node p o n (two (plain u) a b)) w clean = ap₂ (λ y z. noted_constant n (constants.binary u y z)) (same_constant c Read a w clean.1.0) (same_constant c Read b (walk_node c Read a w) clean.1.1)
 same_constant c r (node p o n (two and a b)) w clean = ap (noted_constant n) (both_alike (same_test c a w (λ d v. same_constant d Read a v clean.1.0)) (same_right c b (walk_test c a w) (λ d v. same_constant d Read b v clean.1.1)))

@@ -9,9 +9,9 @@ use Rattle.c_syntax.specs.Shape.{int, pointer, array, structure, nothing, NoteSh
 use Rattle.c_tables.specs.Tables.{TablesShape}
 use Rattle.c_walk.specs.declared.around.Around.{Around}
 use Rattle.c_walk.specs.declared.around.Taken.{Taken}
-use Rattle.c_walk.specs.Places.{is_place, has_scalar}
+use Rattle.c_walk.specs.Places.{is_place}
 use Rattle.c_walk.specs.Tests.{choosing}
-use Rattle.c_walk.specs.Walked.{Walked, is_read, is_written, with_block, with_block_if, with_site}
+use Rattle.c_walk.specs.Walked.{Walked, is_used, is_written, with_block, with_block_if, with_site}
 use Rattle.c_walk.specs.Walking.{walk_test, walk_maybe, walk_maybe_test, walk_loop_test, walk_step}
 use Rattle.c_walk.specs.Stating.{with_variable, walk_declarator, walk_decl, walk_decls, pos_of_stmt, splits, is_labelled, walk_choice, walk_stmt, walk_part}
 use Rattle.c_meaning.specs.Constants.{label_constants, case_constants}
@@ -65,10 +65,10 @@ pick_choosing false a d e = refl
 
 pub same_choosing : (c : Around) (r : Taken) (a : NodeShape) (w : Walked) → choosing (probed_node c r a w) ≡ choosing a
 same_choosing c r (node p o n f) w =
-    let b = if is_read r then has_scalar n else false in
+    let b = is_used r n in
     let g = probed_form c r f (with_site c r p n f w) in
     let d = node p o n g in
-    pick_choosing (is_place f) (in_sites r (has_scalar n) w d) d (def_choosing (is_written r) w (in_use b w d) ∙ use_choosing b w d) ∙ note_choosing p o n g f
+    pick_choosing (is_place f) (in_sites r (is_used r n) w d) d (def_choosing (is_written r) w (in_use b w d) ∙ use_choosing b w d) ∙ note_choosing p o n g f
 
 pub select_choosing : (vs : List ℤ) (w : Walked) (a : NodeShape) → choosing (in_select vs w a) ≡ choosing a
 select_choosing vs w (node p o n f) = value_choosing p o n _ f

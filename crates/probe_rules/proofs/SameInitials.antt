@@ -12,7 +12,7 @@ use Rattle.c_walk.specs.declared.around.Around.{Around}
 use Rattle.c_walk.specs.declared.around.Taken.{Taken}
 use Rattle.c_walk.specs.declared.around.Taken.TheVariants.{Read, Addressed}
 use Rattle.c_walk.specs.Places.{is_place, has_scalar, has_array}
-use Rattle.c_walk.specs.Walked.{Walked, is_read, is_written, with_site}
+use Rattle.c_walk.specs.Walked.{Walked, is_used, is_written, with_site}
 use Rattle.c_walk.specs.Walking.{walk_node}
 use Rattle.c_meaning.specs.State.{Bound}
 use Rattle.c_meaning.specs.Layout.{part_in}
@@ -50,10 +50,10 @@ pick_array false a d e = refl
 
 pub same_array : (c : Around) (r : Taken) (a : NodeShape) (w : Walked) → has_array (probed_node c r a w) ≡ has_array a
 same_array c r (node p o n f) w =
-    let b = if is_read r then has_scalar n else false in
+    let b = is_used r n in
     let g = probed_form c r f (with_site c r p n f w) in
     let d = node p o n g in
-    pick_array (is_place f) (in_sites r (has_scalar n) w d) d (def_array (is_written r) w (in_use b w d) ∙ use_array b w d) ∙ same_array_of p o n g f
+    pick_array (is_place f) (in_sites r (is_used r n) w d) d (def_array (is_written r) w (in_use b w d) ∙ use_array b w d) ∙ same_array_of p o n g f
 
 -- ---- places
 
@@ -66,19 +66,17 @@ module _ (t : TablesShape) (bs : List Bound) where
   def_in true w (node p o n f) = refl
   def_in false w a = refl
 
-  sites_in : (r : Taken) (scalar : Bool) (w : Walked) (a : NodeShape) → place_in t bs (in_sites r scalar w a) ≡ place_in t bs a
-  sites_in r scalar w a =
-      let b = if is_read r then scalar else false in
-      def_in (is_written r) w (in_use b w a) ∙ use_in b w a
+  sites_in : (r : Taken) (b : Bool) (w : Walked) (a : NodeShape) → place_in t bs (in_sites r b w a) ≡ place_in t bs a
+  sites_in r b w a = def_in (is_written r) w (in_use b w a) ∙ use_in b w a
 
   pub same_place : (c : Around) (r : Taken) (a : NodeShape) (w : Walked) → IsReady r a → place_in t bs (probed_node c r a w) ≡ place_in t bs a
   same_place c r (node p o n (leaf (number x))) w clean = refl
   same_place c r (node p o n (leaf (char x))) w clean = refl
   same_place c r (node p o n (leaf (str x))) w clean = refl
-  same_place c r (node p o n (leaf (name x))) w clean = sites_in r (has_scalar n) w (node p o n (leaf (name x)))
+  same_place c r (node p o n (leaf (name x))) w clean = sites_in r (is_used r n) w (node p o n (leaf (name x)))
   same_place c r (node p o n (paren a)) w clean = same_place c r a w clean.1
   same_place c r (node p o n (call x args)) w clean = refl
-  same_place c r (node p o n (prefix (unary front.Deref) a)) w clean = sites_in r (has_scalar n) w _
+  same_place c r (node p o n (prefix (unary front.Deref) a)) w clean = sites_in r (is_used r n) w _
   same_place c r (node p o n (prefix (unary front.AddressOf) a)) w clean = refl
   same_place c r (node p o n (prefix (unary front.Plus) a)) w clean = refl
   same_place c r (node p o n (prefix (unary front.Minus) a)) w clean = refl
@@ -93,16 +91,16 @@ module _ (t : TablesShape) (bs : List Bound) where
       let v = walk_node c Read a u in
       let x = probed_node c Read a u in
       let y = probed_node c Read d v in
-      sites_in r (has_scalar n) w (node p o n (suffix x (index y)))
+      sites_in r (is_used r n) w (node p o n (suffix x (index y)))
       ∙ (ap₂ (λ b i. if b then element_in t (type_at x) i (place_in t bs x) else element_in t (type_at y) (constant x) (place_in t bs y)) (same_array c Read a u) (same_constant c Read d v clean.1.1)
       ∙ (ap₂ (λ j q. if has_array a then element_in t j (constant d) q else element_in t (type_at y) (constant x) (place_in t bs y)) (same_type c Read a u) (same_place c Read a u clean.1.0)
       ∙ (ap₂ (λ j i. if has_array a then element_in t (type_at a) (constant d) (place_in t bs a) else element_in t j i (place_in t bs y)) (same_type c Read d v) (same_constant c Read a u clean.1.0)
       ∙ ap (λ q. if has_array a then element_in t (type_at a) (constant d) (place_in t bs a) else element_in t (type_at d) (constant a) q) (same_place c Read d v clean.1.1))))
   same_place c r (node p o n (suffix a (field dot x q))) w clean =
       let u = with_site c r p n (suffix a (field dot x q)) w in
-      sites_in r (has_scalar n) w (node p o n (suffix (probed_node c Read a u) (field dot x q)))
+      sites_in r (is_used r n) w (node p o n (suffix (probed_node c Read a u) (field dot x q)))
       ∙ ap₂ (λ j z. field_in t (part_in t x j) z) (same_type c Read a u) (same_place c Read a u clean.1)
-  same_place c r (node p o n (suffix a (field arrow x q))) w clean = sites_in r (has_scalar n) w _
+  same_place c r (node p o n (suffix a (field arrow x q))) w clean = sites_in r (is_used r n) w _
   same_place c r (node p o n (suffix a (behind u))) w clean = refl
   same_place c r (node p o n (two (plain u) a d)) w clean = refl
   same_place c r (node p o n (two and a d)) w clean = refl

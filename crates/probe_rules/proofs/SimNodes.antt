@@ -15,10 +15,10 @@ use Rattle.c_tables.specs.Tables.{FunctionShape, TablesShape}
 use Rattle.c_tables.specs.Rows.{row}
 use Rattle.c_walk.specs.declared.around.Around.{Around}
 use Rattle.c_walk.specs.declared.around.Taken.{Taken}
-use Rattle.c_walk.specs.declared.around.Taken.TheVariants.{Read, Written, Changed, Addressed}
-use Rattle.c_walk.specs.Places.{is_place, has_scalar}
+use Rattle.c_walk.specs.declared.around.Taken.TheVariants.{Read, Written, Changed, Addressed, Copied}
+use Rattle.c_walk.specs.Places.{is_place, has_scalar, holds_structure}
 use Rattle.c_walk.specs.Tests.{is_logical_form}
-use Rattle.c_walk.specs.Walked.{Walked, pos_of, with_block, with_test, with_site, inside_test, next_decision}
+use Rattle.c_walk.specs.Walked.{Walked, pos_of, with_block, with_test, with_site, inside_test, next_decision, right_taken}
 use Rattle.c_walk.specs.Walking.{walk_node, walk_form, walk_test, walk_arm, walk_nodes}
 use Rattle.c_meaning.specs.State.{State}
 use Rattle.c_meaning.specs.Results.{Got, Gives, Stops, then_do, turn, settled, needed}
@@ -29,7 +29,7 @@ use Rattle.c_meaning.specs.Places.{marks, logs, loaded, field_place}
 use Rattle.c_meaning.specs.Constants.{type_at, kind_noted}
 use Rattle.c_meaning.specs.Knot.{Knot}
 use Rattle.c_meaning.specs.Builtins.{called, called_row, params_of}
-use Rattle.c_meaning.specs.Expressions.{Meaning, as_place, gives, operand, cast_value, tested, arm, last_test, written, step_value, meaning, form_meaning, arguments, log_block, log_test}
+use Rattle.c_meaning.specs.Expressions.{Meaning, as_place, gives, operand, cast_value, tested, arm, last_test, written, step_value, meaning, form_meaning, arguments, log_block, log_test, assigned}
 use Rattle.c_meaning.proofs.Walks.{node_on, test_node_on, arm_on}
 use Rattle.probe_rules.specs.Marks.{in_block, in_test}
 use Rattle.c_walk.specs.Counted.{next_block, next_def, next_use}
@@ -39,7 +39,8 @@ use Rattle.probe_rules.proofs.Ready.{IsReady, HasReadyParts, AreReady}
 use Rattle.probe_rules.proofs.Few.{few_before, few_blocks, few_tests, few_read, form_before, nodes_before, right_before}
 use Rattle.probe_rules.proofs.Loops.{Follows}
 use Rattle.probe_rules.proofs.Told.{as_log, with_log, sim_then, sim_turn, sim_if, sim_settled, sim_needed, logs_is, logs_sim, block_told, outcome_told, loaded_sim, variable_sim, field_sim, written_sim, stepped_sim, number_sim, literal_sim, noted_sim, built_in_sim}
-use Rattle.probe_rules.proofs.Rounds.{same_type, same_operand, form_uses, sited_place, block_value, test_value, read_sim, written_at, changed_at, no_uses, no_defs}
+use Rattle.probe_rules.proofs.Rounds.{same_type, same_operand, form_uses, sited_place, block_value, test_value, read_sim, written_at, changed_at, no_uses, no_defs, same_structure, copied_at, IsWrittenAt}
+use Rattle.probe_rules.proofs.Copied.{copied_to}
 
 -- ---- parts of operators
 
@@ -159,6 +160,14 @@ module _ (t : TablesShape) (k l : Knot) (follows : Follows t k l) where
       sim_then _ _ _ _ (ap (λ d. settled (stepped_by_one u d x) (as_log s)) (same_operand c Changed a w) ∙ sim_settled (stepped_by_one u (operand a) x) s) (λ v s.
       sim_then _ _ _ _ (written_to _ (type_at a) _ (marks def a) m c w q v s (same_type c Changed a w) i.defs (no_defs Changed a clean) i.few_defs) (λ v s. stepped_sim f x v s))))
 
+  -- the right side of `=`: a structure's place is copied, and another's value is written
+  right_sim : (copies : Bool) (c : Around) (a b : NodeShape) (w v : Walked) → IsReady Written a → IsWrittenAt (probed_node c Written a w) w → (let r = if copies then Copied else Read in IsReady r b → HasFewItems (walk_node c r b v) → (m : ℕ) → (IsReady Read b → HasFewItems (walk_node c Read b v) → (s : State) → (meaning t k (probed_node c Read b v)).value (quiet m) (as_log s) ≡ with_log ((meaning t l b).value (heard c v) s)) → (IsReady Copied b → HasFewItems (walk_node c Copied b v) → (s : State) → (meaning t k (probed_node c Copied b v)).place Copied (quiet m) (as_log s) ≡ with_log ((meaning t l b).place Copied (heard c v) s)) → (q : Pointer) (s : State) → (let x = probed_node c Written a w in let y = probed_node c r b v in assigned copies (type_at x) (marks def x) (marks used y) (meaning t k y) (quiet m) (quiet m) q (as_log s) ≡ with_log (assigned copies (type_at a) (marks def a) (marks used b) (meaning t l b) (heard c w) (heard c v) q s)))
+  right_sim true c a b w v left i clean few m value place q s =
+      let j = copied_at c b v clean few in
+      sim_then _ _ _ _ (place clean few s) (λ p s. copied_to _ (marks def a) _ (marks used b) m c w v q p s i.defs (no_defs Written a left) j.uses (no_uses Copied b clean) i.few j.few)
+  right_sim false c a b w v left i clean few m value place q s =
+      sim_then _ _ _ _ (sim_needed _ _ (value clean few s)) (λ x s. written_to _ (type_at a) _ (marks def a) m c w q x s (same_type c Written a w) i.defs (no_defs Written a left) i.few)
+
   -- the right operand of `&&` and `||`
   last_sim : (c : Around) (a : NodeShape) (w : Walked) → HasFewItems (walk_test c a (with_block (pos_of a) w)) → (m : ℕ) → (let v = with_block (pos_of a) w in (s : State) → tested (probed_test c a v) (meaning t k (probed_test c a v)) (quiet m) (as_log s) ≡ with_log (tested a (meaning t l a) (heard c v) s)) → (s : State) → last_test (in_block w (probed_test c a (with_block (pos_of a) w))) (meaning t k (in_block w (probed_test c a (with_block (pos_of a) w)))) (quiet m) (as_log s) ≡ with_log (last_test a (meaning t l a) (heard c w) s)
   last_sim c a w few m go s =
@@ -204,11 +213,12 @@ module _ (t : TablesShape) (k l : Knot) (follows : Follows t k l) where
         sim_if x (gives (Int (pos 1)) (as_log s)) (gives (Int (pos 1)) s) _ _ refl (last_sim c b (walk_test c a w) few m (λ s. test_sim c b (with_block (pos_of b) (walk_test c a w)) clean.1 few m s) s)))
     form_sim c p o n (two (assign None) a b) w clean few m s = sim_turn s _ _ (λ s.
         let v = walk_node c Written a w in
-        let few_a = few_before (node_on c Read b v) few in
-        let i = written_at c a w clean.0 few_a in
+        let few_a = few_before (node_on c (right_taken None a) b v) few in
+        let x = probed_node c Written a w in
+        let y = probed_node c (right_taken None a) b v in
         sim_then _ _ _ _ (place_sim c Written a w clean.0 few_a m s) (λ q s.
-        sim_then _ _ _ _ (sim_needed _ _ (value_sim c b v clean.1 few m s)) (λ x s.
-        written_to _ (type_at a) _ (marks def a) m c w q x s (same_type c Written a w) i.defs (no_defs Written a clean.0) i.few)))
+        ap (λ z. assigned z (type_at x) (marks def x) (marks used y) (meaning t k y) (quiet m) (quiet m) q (as_log s)) (same_structure c Written a w)
+        ∙ right_sim (holds_structure a) c a b w v clean.0 (written_at c a w clean.0 few_a) clean.1 few m (λ is few s. value_sim c b v is few m s) (λ is few s. place_sim c Copied b v is few m s) q s))
     form_sim c p o n (two (assign (Some u)) a b) w clean few m s = sim_turn s _ _ (λ s.
         let v = walk_node c Changed a w in
         let few_a = few_before (node_on c Read b v) few in

@@ -117,10 +117,10 @@ block_told c w s = did_told tells tells_tells (Block (next_block w)) s
 pub outcome_told : (c : Around) (w : Walked) (o : ℕ) (s : State) → log_test o (next_decision w) (as_log s) ≡ as_log (noted_outcome (heard c w) o s)
 outcome_told c w o s = did_told tells tells_tells (Test (next_decision w) o (activation s)) s
 
-use_told : (c : Around) (w : Walked) (q : Pointer) (s : State) → log_use q (next_use w) (as_log s) ≡ as_log (noted_use tells (heard c w) q s)
-use_told c w q s = did_told tells tells_tells (Use (next_use w) (cell_at q) (activation s)) s
+pub use_told : (way : Event → Act) → Tells way → (c : Around) (w : Walked) (q : Pointer) (s : State) → log_use q (next_use w) (as_log s) ≡ as_log (noted_use way (heard c w) q s)
+use_told way tell c w q s = did_told way tell (Use (next_use w) (cell_at q) (activation s)) s
 
-def_told : (way : Event → Act) → Tells way → (c : Around) (w : Walked) (q : Pointer) (s : State) → log_def q (next_def w) (as_log s) ≡ as_log (noted_def way (heard c w) q s)
+pub def_told : (way : Event → Act) → Tells way → (c : Around) (w : Walked) (q : Pointer) (s : State) → log_def q (next_def w) (as_log s) ≡ as_log (noted_def way (heard c w) q s)
 def_told way tell c w q s = did_told way tell (Def (next_def w) (cell_at q)) s
 
 -- what is no event is not told
@@ -134,7 +134,7 @@ begun_told c w f s = ap (λ z. record s { deeds = []; log = z }) (sym (append-ni
 
 pub loaded_sim : (m : ℕ) (c : Around) (w : Walked) (q : Pointer) (s : State) → use_count w.items < 16383 → loaded (decimal (next_use w) ∷ []) (quiet m) q (as_log s) ≡ with_log (loaded [] (heard c w) q s)
 loaded_sim m c w q s few = sim_then _ _ _ _ (sim_settled (read_of s.store q) s) (λ v s.
-    logs_sim (log_use q) (next_use w) s (noted_use tells (heard c w) q s) (Gives v) (Gives v) (omega arith) (omega arith) (use_told c w q s) (λ s. refl))
+    logs_sim (log_use q) (next_use w) s (noted_use tells (heard c w) q s) (Gives v) (Gives v) (omega arith) (omega arith) (use_told tells tells_tells c w q s) (λ s. refl))
 
 pub stored_sim : (way : Event → Act) → Tells way → (m : ℕ) (c : Around) (w : Walked) (q : Pointer) (v : Value) (s : State) → def_count w.items < 16383 → stored way (decimal (next_def w) ∷ []) (quiet m) q v (as_log s) ≡ with_log (stored way [] (heard c w) q v s)
 stored_sim way tell m c w q v s few = sim_then _ _ _ _ (sim_settled (write_of s.store q v) s) (λ z s.

@@ -1,28 +1,29 @@
--- What the checker sees to in a program: what is written is a place, what is changed is a place of a scalar, the name of a scalar is that of a
--- variable or has its value in its note, and what is defined at its name has one.
+-- What the checker sees to in a program: what is written is a place, what is changed is a place of a scalar, what is copied is a place of a
+-- structure, the name of a scalar is that of a variable or has its value in its note, and what is defined at its name has one.
 use Rattle.std.specs.Prelude.{◌≡◌, ℕ, ◌≤◌, List, [], ◌∷◌, Bool, true, false, Option, Some, None}
 use Rattle.c_syntax.specs.declared.tree.Named.{Named}
 use Rattle.c_syntax.specs.Shape.{TypeOf, NoteShape, bare, typed, known, Leaf, number, char, str, name, unary, before, size_of, plain, and, or, assign, comma, NodeShape, node, ExprShape, leaf, paren, call, prefix, size_of_type, cast, suffix, two, choose, probe, index, field, behind, NodeShapes, no_nodes, more_nodes, MaybeNode, no_node, one_node, DeclShape, decl, DeclShapes, no_decls, more_decls, DeclaratorShape, declarator, DeclaratorShapes, no_declarators, more_declarators, DeclFormShape, arrays, function, ParamsShape, empty, void, params, MaybeInit, no_init, one_init, InitShape, one, listed, LabelShape, case, default, StmtShape, stmt, FormShape, compound, simply, when, either, while, do_while, for, switch, break, continue, return, CompoundShape, braces, ItemShapes, no_items, more_items, ExternalShape, defined, declared, UnitShape}
 use Rattle.c_type_rules.specs.Kinds.{is_scalar}
 use Rattle.c_walk.specs.declared.around.Taken.{Taken}
-use Rattle.c_walk.specs.declared.around.Taken.TheVariants.{Read, Written, Changed, Addressed}
-use Rattle.c_walk.specs.Places.{is_place, has_scalar}
-use Rattle.c_walk.specs.Walked.{Walked, operand_taken, left_taken}
+use Rattle.c_walk.specs.declared.around.Taken.TheVariants.{Read, Written, Changed, Copied, Addressed}
+use Rattle.c_walk.specs.Places.{is_place, has_scalar, has_structure}
+use Rattle.c_walk.specs.Walked.{Walked, operand_taken, left_taken, right_taken}
 use Rattle.c_walk.specs.Counted.{block_count, def_count, use_count}
 
 -- ---- expressions
 
--- a place or none, of a scalar or of another type, may be taken so
-abbrev pub MayBe : Taken → Bool → Bool → Type 0
-MayBe Read place scalar = Unit {0}
-MayBe Addressed place scalar = Unit {0}
-MayBe Written place scalar = place ≡ true
-MayBe Changed place scalar = (place ≡ true) × (scalar ≡ true)
+-- a place or none, with that note, may be taken so
+abbrev pub MayBe : Taken → Bool → NoteShape → Type 0
+MayBe Read place n = Unit {0}
+MayBe Addressed place n = Unit {0}
+MayBe Written place n = place ≡ true
+MayBe Changed place n = (place ≡ true) × (has_scalar n ≡ true)
+MayBe Copied place n = (place ≡ true) × (has_structure n ≡ true)
 
 -- parentheses are looked through
 abbrev pub Suits : Taken → NoteShape → ExprShape → Type 0
 Suits r n (paren a) = Unit {0}
-Suits r n f = MayBe r (is_place f) (has_scalar n)
+Suits r n f = MayBe r (is_place f) n
 
 abbrev pub HasVariable : TypeOf → Option ℕ → Type 0
 HasVariable t (Some v) = Unit {0}
@@ -56,7 +57,7 @@ abbrev mutual
   HasFitParts r n (suffix a (index b)) = IsFit Read a × IsFit Read b
   HasFitParts r n (suffix a (field h x q)) = IsFit Read a
   HasFitParts r n (suffix a (behind u)) = IsFit Changed a
-  HasFitParts r n (two (assign u) a b) = IsFit (left_taken u) a × IsFit Read b
+  HasFitParts r n (two (assign u) a b) = IsFit (left_taken u) a × IsFit (right_taken u a) b
   HasFitParts r n (two (plain u) a b) = IsFit Read a × IsFit Read b
   HasFitParts r n (two and a b) = IsFit Read a × IsFit Read b
   HasFitParts r n (two or a b) = IsFit Read a × IsFit Read b

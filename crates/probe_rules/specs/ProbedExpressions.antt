@@ -1,25 +1,25 @@
 -- Expressions with their probes: what the walk counts at a node gets a probe there, with the number that it has in the walk. What the walk
 -- doesn't go through stays as it is.
-use Rattle.std.specs.Prelude.{Bool, false, if◌then◌else◌}
+use Rattle.std.specs.Prelude.{Bool, if◌then◌else◌}
 use Rattle.c_base.specs.declared.place.Pos.{Pos}
 use Rattle.c_syntax.specs.Shape.{NoteShape, unary, before, size_of, plain, and, or, assign, comma, NodeShape, node, ExprShape, leaf, paren, call, prefix, size_of_type, cast, suffix, two, choose, probe, index, field, behind, NodeShapes, no_nodes, more_nodes, MaybeNode, no_node, one_node, ItemShapes}
 use Rattle.c_walk.specs.declared.around.Around.{Around}
 use Rattle.c_walk.specs.declared.around.Taken.{Taken}
 use Rattle.c_walk.specs.declared.around.Taken.TheVariants.{Read, Changed}
 use Rattle.c_walk.specs.Items.{cases}
-use Rattle.c_walk.specs.Places.{is_place, has_scalar}
+use Rattle.c_walk.specs.Places.{is_place}
 use Rattle.c_walk.specs.Tests.{is_logical_form, choosing, case_values}
-use Rattle.c_walk.specs.Walked.{Walked, is_read, is_written, operand_taken, left_taken, with_block, pos_of, inside, inside_test, with_decision, with_test, with_site}
+use Rattle.c_walk.specs.Walked.{Walked, is_used, is_written, operand_taken, left_taken, right_taken, with_block, pos_of, inside, inside_test, with_decision, with_test, with_site}
 use Rattle.c_walk.specs.Walking.{walk_node, walk_test, walk_arm}
 use Rattle.probe_rules.specs.Marks.{in_block, in_test, in_use, in_def, in_select}
 
--- a place with the probes of its sites: a definition outside a use
+-- a place with the probes of its sites, of which one may be a use: a definition outside it
 abbrev pub in_sites : Taken → Bool → Walked → NodeShape → NodeShape
-in_sites r scalar w a = in_def (is_written r) w (in_use (if is_read r then scalar else false) w a)
+in_sites r b w a = in_def (is_written r) w (in_use b w a)
 
 -- a node of that form, whose parts have their probes
 abbrev pub sited : Taken → Pos → Pos → NoteShape → ExprShape → ExprShape → Walked → NodeShape
-sited r p o n f g w = if is_place f then in_sites r (has_scalar n) w (node p o n g) else node p o n g
+sited r p o n f g w = if is_place f then in_sites r (is_used r n) w (node p o n g) else node p o n g
 
 abbrev mutual
   pub probed_node : Around → Taken → NodeShape → Walked → NodeShape
@@ -44,7 +44,7 @@ abbrev mutual
   probed_form c r (two or a b) w =
       let v = walk_test c a w in
       two or (probed_test c a w) (in_block v (probed_test c b (with_block (pos_of b) v)))
-  probed_form c r (two (assign u) a b) w = two (assign u) (probed_node c (left_taken u) a w) (probed_node c Read b (walk_node c (left_taken u) a w))
+  probed_form c r (two (assign u) a b) w = two (assign u) (probed_node c (left_taken u) a w) (probed_node c (right_taken u a) b (walk_node c (left_taken u) a w))
   probed_form c r (two (plain u) a b) w = two (plain u) (probed_node c Read a w) (probed_node c Read b (walk_node c Read a w))
   probed_form c r (two comma a b) w = two comma (probed_node c Read a w) (probed_node c Read b (walk_node c Read a w))
   probed_form c r (choose a b d) w = choose (probed_test c a w) (probed_arm c b (walk_test c a w)) (probed_arm c d (walk_arm c b (walk_test c a w)))

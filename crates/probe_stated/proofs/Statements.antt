@@ -41,9 +41,10 @@ use Rattle.probe_moved.proofs.States.{further_alike, opened_scope_alike, closed_
 use Rattle.probe_moved.proofs.Statements.{AlikeLabels, labels_alike, switched_alike}
 use Rattle.probe_cases.proofs.Choice as choices
 use Rattle.probe_typed.specs.Typed.{Follows, MayBeTested, IsTypedNear}
-use Rattle.probe_typed.proofs.Parts.{nodes_typed, tests_typed, loop_tests_typed, maybes_typed, maybe_tests_typed, steps_typed, results_typed, judged_alike, tested_so}
+use Rattle.probe_typed.proofs.Parts.{tests_typed, loop_tests_typed, maybes_typed, maybe_tests_typed, steps_typed, results_typed, judged_alike, tested_so, reads_typed}
 use Rattle.probe_stated.specs.Stated.{IsStmtTypedAs, IsCompoundTypedAs, DeclsAreTypedAs}
 use Rattle.probe_stated.proofs.Labels.{labels_again, labels_go}
+use Rattle.c_tree.specs.declared.meaning.Side.TheVariants.{Neither}
 
 three : {A B C D : Type 0} (k : A → B → C → D) {a b : A} {c d : B} {e f : C} → a ≡ b → c ≡ d → e ≡ f → k a c e ≡ k b d f
 three k {a} {b} {c} {d} {e} {f} p q r = ap (λ x. k x c e) p ∙ ap₂ (k b) q r
@@ -252,7 +253,7 @@ module _ (tables : TablesShape) (declared : DeclsAreTypedAs) where
         let q = probed_choice c x.node y.items w in
         let z = type_node q (steps 2 t) in
         let i = choices.choice_alike 0 0 (seen_at v) e p a items s is h n clean c w (steps 2 t) (few_decisions (pos_of x.node) (cases (case_values (choosing x.node) y.items)) w few_d) begun
-        (λ b be. let j = nodes_typed false (inside c w) Read a d (steps 2 s) b is.0 (none_first (node_mark a) (items_mark items) m) h early tt few_v be in (j.node, j.sort, j.state)) in
+        (λ b be. let j = reads_typed a (steps 2 s) is.0 (none_first (node_mark a) (items_mark items) m) h early Neither (inside c w) d few_v b be in (j.node, j.sort, j.state)) in
         let same : promoted_type z.sort.kind ≡ promoted_type x.sort.kind = ap (λ k. promoted_type k.kind) i.1 in
         let judged = switched_alike 0 0 (seen_at v) (steps 2 s).at (steps 2 t).at x z same i.2 in
         let u' = rule (switched z) (steps 2 t).at (pos_in z.node) z.state in

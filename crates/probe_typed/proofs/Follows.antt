@@ -2,7 +2,7 @@
 use Rattle.std.proofs.Common.{◌≡◌, ℕ, ◌+◌, length, ◌∙◌, sym, ap, ap₂, arith}
 use Rattle.std.specs.Prelude.{min, ◌-◌, ◌^◌}
 use Rattle.c_base.specs.declared.place.Pos.{Pos}
-use Rattle.c_syntax.specs.Shape.{NoteShape, NodeShape, node, ExprShape}
+use Rattle.c_syntax.specs.Shape.{NoteShape, known, NodeShape, node, ExprShape}
 use Rattle.c_tree.specs.State.{State, steps}
 use Rattle.c_tree.specs.Sorts.{Sort, Typing, Outcome, Formed, formed, noted, note_of, node_sort, cleared}
 use Rattle.c_walk.specs.Walked.{Walked}
@@ -23,6 +23,9 @@ clean_too w {s} {t} al c =
     let e : length t.complaints ≡ length al.complaints = ap (λ (z : State). length z.complaints) al.is in
     omega (arith, e, al.count, c)
 
+pub side_too : (w : Walked) {s t : State} → Follows w s t → t.side ≡ s.side
+side_too w al = ap (λ (z : State). z.side) al.is
+
 -- ---- forms and their nodes
 
 pub record IsFormTypedAs (v : Walked) (x : Formed) (g : ExprShape) (y : Formed) : Type 0 where
@@ -32,6 +35,11 @@ pub record IsFormTypedAs (v : Walked) (x : Formed) (g : ExprShape) (y : Formed) 
 
 pub formed_typed : (v : Walked) (f g h : ExprShape) (x y : Outcome) → h ≡ g → AlikeOutcome 0 0 (seen_at v) x y → IsFormTypedAs v (formed f x) g (formed h y)
 formed_typed v f g h x y e al = record { form = e; typing = al.typing; state = al.state }
+
+-- a note that holds no value
+abbrev pub IsPlainNote : NoteShape → Type 0
+IsPlainNote (known t v) = ⊥
+IsPlainNote n = Unit {0}
 
 abbrev pub note_at : NodeShape → NoteShape
 note_at (node p o n f) = n

@@ -1,6 +1,7 @@
 mod Follows
 mod Near
 mod Probes
+mod Sides
 mod Sites
 mod Written
 mod Tests

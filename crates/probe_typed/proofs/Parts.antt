@@ -19,20 +19,34 @@ use Rattle.probe_laws.proofs.Settled.{IsThere, IsClean, type_there, by_told, tes
 use Rattle.probe_laws.proofs.Rules.{back}
 use Rattle.probe_laws.proofs.Known.{Knows}
 use Rattle.probe_laws.proofs.KnownNodes.{node_knows}
-use Rattle.probe_typed.specs.Typed.{Follows, MayBeTested, NodesAreTypedAs, TestsAreTypedNear, LoopTestsAreTypedNear, ArmsAreTypedNear, ArgumentsAreTypedAs, MaybesAreTypedAs, MaybeTestsAreTypedAs, StepsAreTypedAs, ResultsAreTypedAs, TestsAreJudgedAlike}
+use Rattle.probe_typed.specs.Typed.{Follows, MayBeTested, NodesAreTypedAs, TestsAreTypedNear, LoopTestsAreTypedNear, ArmsAreTypedNear, ArgumentsAreTypedAs, MaybesAreTypedAs, MaybeTestsAreTypedAs, StepsAreTypedAs, ResultsAreTypedAs, TestsAreJudgedAlike, IsTypedAs}
 use Rattle.probe_typed.proofs.Near.{tested_follows}
-use Rattle.probe_typed.proofs.Tests.{IsReadTyped, test_from, arm_from, loop_from}
+use Rattle.probe_typed.proofs.Tests.{IsReadTyped, read_from, test_from, arm_from, loop_from}
 use Rattle.probe_typed.proofs.Expressions.{node_typed, arguments_typed}
+use Rattle.c_tree.specs.declared.meaning.Side.{Side}
+use Rattle.c_walk.specs.declared.around.Around.{Around}
+use Rattle.c_walk.specs.Walked.{Walked}
+use Rattle.c_tree.specs.Operators.{sided}
+use Rattle.probe_rules.specs.Fitting.{HasFewItems}
 
 pub nodes_typed : NodesAreTypedAs
 nodes_typed b c r a w s t is m h clean able few al = node_typed c r a w is m h clean able few al
 
 -- what is typed without a complaint is typed as it stands wherever it is read
 read_typed : {b : Bool} (a : NodeShape) (s : State) → Shaped a → node_mark a ≡ None → Knows b s → IsClean (type_node a s).state → IsReadTyped a s
-read_typed a s is m h clean c w few t al = node_typed c Read a w is m h clean tt few al
+read_typed a s is m h clean = read_from a s m clean (λ d c w t al clean few. node_typed c Read a w is m h clean tt few al)
+
+-- also where it stands on another side of `=`, or on none
+pub reads_typed : {b : Bool} (a : NodeShape) (s : State) → Shaped a → node_mark a ≡ None → Knows b s → (
+    let x = type_node a s in
+    IsClean x.state → (d : Side) (c : Around) (w : Walked) → (
+    let q = probed_node c Read x.node w in
+    let v = walk_node c Read x.node w in
+    HasFewItems v → (t : State) → Follows w (sided d s) t → IsTypedAs v x q (type_node q t)))
+reads_typed a s is m h clean = read_typed a s is m h clean
 
 pub tests_typed : TestsAreTypedNear
-tests_typed b c a w s t is m h clean able few al = test_from c a w s (read_typed a s is m h clean) (back (node_grows a s) clean) clean able few t al
+tests_typed b c a w s t is m h clean able few al = test_from c a w s (read_typed a s is m h clean) (back (node_grows a s) clean) clean able few s.side t al
 
 pub loop_tests_typed : LoopTestsAreTypedNear
 loop_tests_typed b c a w s t is m h clean able few al = loop_from c a w s (read_typed a s is m h clean) (back (node_grows a s) clean) clean able few t al

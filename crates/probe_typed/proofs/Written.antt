@@ -1,4 +1,4 @@
--- What is written is a place of a scalar, and a site of an expression that is typed without a complaint is one.
+-- What is written is a place of a scalar or of a structure that is copied, and a site of an expression that is typed without a complaint is one.
 use Rattle.std.proofs.Common.{◌≡◌, ℕ, List, Bool, true, false, Option, Some, None, refl}
 use Rattle.c_base.specs.declared.place.Pos.{Pos}
 use Rattle.c_base.specs.declared.place.IntKind.TheVariants.{Int}
@@ -6,10 +6,10 @@ use Rattle.c_syntax.specs.declared.tree.BinaryOp.{BinaryOp}
 use Rattle.c_syntax.specs.declared.tree.BinaryOp.TheVariants as op
 use Rattle.c_syntax.specs.declared.tree.UnaryOp.{UnaryOp}
 use Rattle.c_syntax.specs.declared.tree.UnaryOp.TheVariants as front
-use Rattle.c_syntax.specs.Shape.{TypeOf, int, pointer, array, structure, nothing, number, char, str, name, unary, before, size_of, assign, NodeShape, ExprShape, leaf, paren, call, prefix, size_of_type, cast, suffix, two, choose, probe, index, field, behind, simple, select}
+use Rattle.c_syntax.specs.Shape.{TypeOf, int, pointer, array, structure, nothing, number, char, str, name, unary, before, size_of, assign, NodeShape, ExprShape, leaf, paren, call, prefix, size_of_type, cast, suffix, two, choose, probe, index, field, behind, simple, select, used, def}
 use Rattle.c_type_rules.specs.Kinds.{is_scalar, decay}
 use Rattle.c_type_rules.specs.Layouts.{Measure}
-use Rattle.c_type_rules.specs.Verdicts.{Verdict, fine, unknown, wrong, on, truth_of, values_type, branches_type, stored_type, fits_type, compound_type, step_type, truth_type, logical_type, conditional_type}
+use Rattle.c_type_rules.specs.Verdicts.{Verdict, fine, unknown, wrong, on, truth_of, values_type, branches_type, compound_type, step_type, truth_type, logical_type, conditional_type, assigned_type, is_probed}
 use Rattle.c_constants.specs.declared.constants.Constant.{Constant}
 use Rattle.c_constants.specs.declared.constants.Constant.TheVariants.{No, Faulty, Known, Variable, Part, Address, Literal}
 use Rattle.c_scopes.specs.Scoping.{find}
@@ -20,25 +20,29 @@ use Rattle.c_tree.specs.declared.meaning.Entity.TheVariants as entity
 use Rattle.c_tree.specs.State.{State}
 use Rattle.c_tree.specs.Rulings.{by, then_rule, rule, kind_at, of_kind, allowed_if, moved}
 use Rattle.c_tree.specs.Sorts.{Sort, Typing, note_of, changeable}
-use Rattle.c_tree.specs.Operators.{named_variable, named_parameter, named_entity, unary_sort, step_rule, typed_infix, choice_rule}
+use Rattle.c_tree.specs.Operators.{named_variable, named_parameter, named_entity, unary_sort, step_rule, typed_infix, choice_rule, left_of, right_of, may_copy, is_copied}
 use Rattle.c_tree.specs.Typing.{type_form}
 use Rattle.c_walk.specs.declared.around.Taken.{Taken}
-use Rattle.c_walk.specs.declared.around.Taken.TheVariants.{Read, Written, Changed, Addressed}
-use Rattle.c_walk.specs.Places.{is_place, has_scalar}
-use Rattle.c_walk.specs.Walked.{operand_taken, left_taken, is_written}
+use Rattle.c_walk.specs.declared.around.Taken.TheVariants.{Read, Written, Changed, Addressed, Copied}
+use Rattle.c_walk.specs.Places.{is_place, has_scalar, holds_structure}
+use Rattle.c_walk.specs.Walked.{operand_taken, left_taken, is_written, right_taken, is_used}
 use Rattle.probe_laws.proofs.Settled.{IsThere, IsClean}
 use Rattle.probe_laws.proofs.Rules.{changeable_there, step_there, left_there, infix_there}
-use Rattle.probe_typed.specs.Typed.{HasScalarType, IsScalarPlace, MayBeTaken, MayBeTested}
+use Rattle.probe_typed.specs.Typed.{MayBeTaken, MayBeTested, HasProbedType, IsProbedPlace}
+use Rattle.probe_typed.proofs.Follows.{IsPlainNote}
+use Rattle.c_tree.specs.declared.meaning.Side.{Side}
+use Rattle.probe_laws.proofs.FitNodes.{HasStructureType, Allows}
+use Rattle.std.specs.Prelude.{if◌then◌else◌}
 
 -- ---- operands
 
-pub operand_taken_so : (u : UnaryOp) (a : Sort) → MayBeTaken (operand_taken u) a
-operand_taken_so front.AddressOf a = tt
-operand_taken_so front.Deref a = tt
-operand_taken_so front.Plus a = tt
-operand_taken_so front.Minus a = tt
-operand_taken_so front.Flip a = tt
-operand_taken_so front.Not a = tt
+pub operand_taken_so : (u : UnaryOp) (d : Side) (a : Sort) → MayBeTaken (operand_taken u) d a
+operand_taken_so front.AddressOf d a = tt
+operand_taken_so front.Deref d a = tt
+operand_taken_so front.Plus d a = tt
+operand_taken_so front.Minus d a = tt
+operand_taken_so front.Flip d a = tt
+operand_taken_so front.Not d a = tt
 
 if_place : (b : Bool) (t : TypeOf) → IsThere (kind_at (allowed_if b 32 t)) → b ≡ true
 if_place true t h = refl
@@ -52,20 +56,20 @@ is_left : (k j : Option TypeOf) (b : Bool) → IsThere (kind_at (of_kind j (λ t
 is_left k None b h = absurd h
 is_left k (Some t) b h = is_placed k b h
 
--- a value fits into a scalar alone
-stored_scalar : (t b : TypeOf) (n : Bool) → IsThere (kind_at (by 33 (stored_type t b n))) → is_scalar t ≡ true
-stored_scalar (int k) b n h = refl
-stored_scalar (pointer t) b n h = refl
-stored_scalar (array t m) b n h = absurd h
-stored_scalar (structure m) b n h = absurd h
-stored_scalar nothing b n h = absurd h
+-- a value fits into a scalar alone, and a structure is copied
+stored_probed : (t b : TypeOf) (n place : Bool) → IsThere (kind_at (by 33 (assigned_type (Some t) (Some b) n place))) → is_probed true t ≡ true
+stored_probed (int k) b n place h = refl
+stored_probed (pointer t) b n place h = refl
+stored_probed (array t m) b n place h = absurd h
+stored_probed (structure m) b n place h = refl
+stored_probed nothing b n place h = absurd h
 
 nothing_stored : (v : Verdict) (rooms : List Measure) → IsThere (kind_at (then_rule (by 33 (on v (λ t. wrong))) (moved rooms))) → ⊥
 nothing_stored (fine t) rooms h = h
 nothing_stored unknown rooms h = h
 nothing_stored wrong rooms h = h
 
-compound_scalar : (u : BinaryOp) (rooms : List Measure) (t b : TypeOf) → IsThere (kind_at (then_rule (by 33 (compound_type u (Some t) (Some b))) (moved rooms))) → is_scalar t ≡ true
+compound_scalar : (u : BinaryOp) (rooms : List Measure) (t b : TypeOf) → IsThere (kind_at (then_rule (by 33 (compound_type u (Some t) (Some b))) (moved rooms))) → is_probed false t ≡ true
 compound_scalar u rooms (int k) b h = refl
 compound_scalar u rooms (pointer t) b h = refl
 compound_scalar u rooms (array t n) b h = absurd (nothing_stored (values_type u (pointer t) false (decay b) false) rooms h)
@@ -75,34 +79,56 @@ compound_scalar u rooms nothing b h = absurd (nothing_stored (values_type u noth
 abbrev left_kind : Option TypeOf → Bool → Option TypeOf → Option TypeOf
 left_kind k b j = kind_at (of_kind j (λ t. of_kind k (allowed_if b 32)))
 
-assigned_scalar : (k : Option TypeOf) (b : Bool) (j : Option TypeOf) (n : Bool) → IsThere k → IsThere j → b ≡ true → IsThere (kind_at (by 33 (fits_type (left_kind k b j) j n))) → HasScalarType k
-assigned_scalar None b j n is at e h = is
-assigned_scalar (Some t) b None n is at e h = absurd at
-assigned_scalar (Some t) true (Some j) n is at e h = stored_scalar t (decay j) n h
-assigned_scalar (Some t) false (Some j) n is at e h = cc
+assigned_probed : (k : Option TypeOf) (b : Bool) (j : Option TypeOf) (n place : Bool) → IsThere k → IsThere j → b ≡ true → IsThere (kind_at (by 33 (assigned_type (left_kind k b j) j n place))) → HasProbedType true k
+assigned_probed None b j n place is at e h = is
+assigned_probed (Some t) b None n place is at e h = absurd at
+assigned_probed (Some t) true (Some j) n place is at e h = stored_probed t j n place h
+assigned_probed (Some t) false (Some j) n place is at e h = cc
 
 left_scalar : (u : BinaryOp) (rooms : List Measure) (k : Option TypeOf) (b : Bool) (j : Option TypeOf) → IsThere k → IsThere j → b ≡ true
-    → IsThere (kind_at (then_rule (by 33 (compound_type u (left_kind k b j) j)) (moved rooms))) → HasScalarType k
+    → IsThere (kind_at (then_rule (by 33 (compound_type u (left_kind k b j) j)) (moved rooms))) → HasProbedType false k
 left_scalar u rooms None b j is at e h = is
 left_scalar u rooms (Some t) b None is at e h = absurd at
 left_scalar u rooms (Some t) true (Some j) is at e h = compound_scalar u rooms t j h
 left_scalar u rooms (Some t) false (Some j) is at e h = cc
 
-pub left_taken_so : (u : Option BinaryOp) (a b : Sort) (token : ℕ) (o : Pos) (head : ℕ) (p : Pos) (s : State) → IsThere a.kind → IsThere b.kind → IsClean (typed_infix token o head p (assign u) a b s).state → MayBeTaken (left_taken u) a
+pub left_taken_so : (u : Option BinaryOp) (a b : Sort) (token : ℕ) (o : Pos) (head : ℕ) (p : Pos) (s : State) → IsThere a.kind → IsThere b.kind → IsClean (typed_infix token o head p (assign u) a b s).state → MayBeTaken (left_taken u) (left_of (assign u)) a
 left_taken_so None a b token o head p s h g c =
     let e = is_left a.kind b.kind a.place (left_there None s.rooms a b token o head p s h g c) in
-    (e, assigned_scalar a.kind a.place b.kind _ h g e (infix_there token o head p (assign None) a b s h g c))
+    (e, assigned_probed a.kind a.place b.kind _ _ h g e (infix_there token o head p (assign None) a b s h g c))
 left_taken_so (Some u) a b token o head p s h g c =
     let e = is_left a.kind b.kind a.place (left_there (Some u) s.rooms a b token o head p s h g c) in
     (e, left_scalar u s.rooms a.kind a.place b.kind h g e (infix_there token o head p (assign (Some u)) a b s h g c))
 
-step_scalar : (rooms : List Measure) (k : Option TypeOf) (b : Bool) → IsThere k → b ≡ true → IsThere (kind_at (then_rule (by 33 (step_type (kind_at (of_kind k (allowed_if b 32))))) (moved rooms))) → HasScalarType k
+-- what is to the right of a structure is copied
+structure_probed : (j k : Option TypeOf) → HasStructureType j → HasStructureType k → HasProbedType (is_copied used (may_copy j)) k
+structure_probed None k h g = absurd h
+structure_probed (Some t) None h g = absurd g
+structure_probed (Some (structure m)) (Some (structure n)) h g = refl
+structure_probed (Some (structure m)) (Some (int k)) h g = cc
+structure_probed (Some (structure m)) (Some (pointer t)) h g = cc
+structure_probed (Some (structure m)) (Some (array t n)) h g = cc
+structure_probed (Some (structure m)) (Some nothing) h g = cc
+structure_probed (Some (int k)) (Some t) h g = cc
+structure_probed (Some (pointer t)) (Some u) h g = cc
+structure_probed (Some (array t n)) (Some u) h g = cc
+structure_probed (Some nothing) (Some t) h g = cc
+
+pub right_taken_so : (u : Option BinaryOp) (x : NodeShape) (a b : Sort) → (holds_structure x ≡ true → HasStructureType a.kind) → Allows (right_taken u x) b → MayBeTaken (right_taken u x) (right_of (assign u) a.kind) b
+right_taken_so (Some u) x a b holds h = tt
+right_taken_so None x a b holds h = by_left (holds_structure x) refl h
+  where
+    by_left : (copies : Bool) → holds_structure x ≡ copies → Allows (if copies then Copied else Read) b → MayBeTaken (if copies then Copied else Read) (may_copy a.kind) b
+    by_left true e h = (h.0, structure_probed a.kind b.kind (holds e) h.1)
+    by_left false e h = tt
+
+step_scalar : (rooms : List Measure) (k : Option TypeOf) (b : Bool) → IsThere k → b ≡ true → IsThere (kind_at (then_rule (by 33 (step_type (kind_at (of_kind k (allowed_if b 32))))) (moved rooms))) → HasProbedType false k
 step_scalar rooms None b is e h = is
 step_scalar rooms (Some t) true is e h = compound_scalar op.Add rooms t (int Int) h
 step_scalar rooms (Some t) false is e h = cc
 
-pub step_taken_so : (rooms : List Measure) (a : Sort) (token : ℕ) (o : Pos) (head : ℕ) (p : Pos) (s : State) → IsThere a.kind → IsClean (rule (step_rule rooms a) token o (rule (changeable a) head p s)) → MayBeTaken Changed a
-step_taken_so rooms a token o head p s h c =
+pub step_taken_so : (rooms : List Measure) (d : Side) (a : Sort) (token : ℕ) (o : Pos) (head : ℕ) (p : Pos) (s : State) → IsThere a.kind → IsClean (rule (step_rule rooms a) token o (rule (changeable a) head p s)) → MayBeTaken Changed d a
+step_taken_so rooms d a token o head p s h c =
     let e = is_placed a.kind a.place (changeable_there (step_rule rooms a) a token o head p s h c) in
     (e, step_scalar rooms a.kind a.place h e (step_there rooms a token o head p s h c))
 
@@ -159,7 +185,7 @@ name_plain p (Some (entity.Builtin x)) s h = refl
 name_plain p None s h = refl
 
 -- a place has no value in its note
-pub place_plain : (p o : Pos) (f : ExprShape) (s : State) → is_place (type_form p o f s).form ≡ true → IsUnvalued (type_form p o f s).typing
+place_plain : (p o : Pos) (f : ExprShape) (s : State) → is_place (type_form p o f s).form ≡ true → IsUnvalued (type_form p o f s).typing
 place_plain p o (leaf (number t)) s e h = cc
 place_plain p o (leaf (char x)) s e h = cc
 place_plain p o (leaf (str t)) s e h = cc
@@ -180,7 +206,7 @@ place_plain p o (probe (simple u x) a) s e h = cc
 place_plain p o (probe (select x cs) a) s e h = cc
 
 -- what has a scalar in its note
-abbrev pub HasScalarNote : Typing → Type 0
+abbrev HasScalarNote : Typing → Type 0
 HasScalarNote t = has_scalar (note_of t.sort.kind t.sort.constant t.names t.valued) ≡ true
 
 variable_placed : (p : Pos) (n : ℕ) (v : Option VariableShape) (s : State) → HasScalarNote (named_variable p n v s).typing → (named_variable p n v s).typing.sort.place ≡ true
@@ -209,7 +235,7 @@ unary_placed front.Flip a b k c e = cc
 unary_placed front.Not a b k c e = cc
 
 -- what is a place by its form, of a scalar by its note, is one
-pub form_placed : (p o : Pos) (f : ExprShape) (s : State) → is_place (type_form p o f s).form ≡ true → HasScalarNote (type_form p o f s).typing → (type_form p o f s).typing.sort.place ≡ true
+form_placed : (p o : Pos) (f : ExprShape) (s : State) → is_place (type_form p o f s).form ≡ true → HasScalarNote (type_form p o f s).typing → (type_form p o f s).typing.sort.place ≡ true
 form_placed p o (leaf (number t)) s e h = cc
 form_placed p o (leaf (char x)) s e h = cc
 form_placed p o (leaf (str t)) s e h = cc
@@ -229,24 +255,60 @@ form_placed p o (choose a b c) s e h = cc
 form_placed p o (probe (simple u x) a) s e h = cc
 form_placed p o (probe (select x cs) a) s e h = cc
 
-pub scalar_kind : (k : Option TypeOf) (c : Constant) (n : Option ℕ) (valued : Bool) → has_scalar (note_of k c n valued) ≡ true → HasScalarType k
+-- what may have a probe anywhere may have one where it is copied
+probed_too : (copied : Bool) (k : Option TypeOf) → HasProbedType false k → HasProbedType copied k
+probed_too copied None h = h
+probed_too copied (Some (int k)) h = refl
+probed_too copied (Some (pointer t)) h = refl
+probed_too copied (Some (array t n)) h = cc
+probed_too copied (Some (structure n)) h = cc
+probed_too copied (Some nothing) h = cc
+
+scalar_probed : (t : TypeOf) → is_scalar t ≡ true → is_probed false t ≡ true
+scalar_probed (int k) h = refl
+scalar_probed (pointer t) h = refl
+scalar_probed (array t n) h = cc
+scalar_probed (structure n) h = cc
+scalar_probed nothing h = cc
+
+scalar_kind : (k : Option TypeOf) (c : Constant) (n : Option ℕ) (valued : Bool) → has_scalar (note_of k c n valued) ≡ true → HasProbedType false k
 scalar_kind None c n valued h = cc
-scalar_kind (Some t) c n false h = h
-scalar_kind (Some t) No n true h = h
-scalar_kind (Some t) (Faulty k) n true h = h
+scalar_kind (Some t) c n false h = scalar_probed t h
+scalar_kind (Some t) No n true h = scalar_probed t h
+scalar_kind (Some t) (Faulty k) n true h = scalar_probed t h
 scalar_kind (Some t) (Known k v) n true h = cc
-scalar_kind (Some t) Variable n true h = h
-scalar_kind (Some t) Part n true h = h
-scalar_kind (Some t) Address n true h = h
-scalar_kind (Some t) Literal n true h = h
+scalar_kind (Some t) Variable n true h = scalar_probed t h
+scalar_kind (Some t) Part n true h = scalar_probed t h
+scalar_kind (Some t) Address n true h = scalar_probed t h
+scalar_kind (Some t) Literal n true h = scalar_probed t h
 
-pub scalar_note : (k : Option TypeOf) (c : Constant) (n : Option ℕ) (valued : Bool) → valued ≡ false → HasScalarType k → has_scalar (note_of k c n valued) ≡ true
-scalar_note None c n valued e h = absurd h
-scalar_note (Some t) c n false e h = h
-scalar_note (Some t) c n true e h = cc
+plain_note : (k : Option TypeOf) (c : Constant) (n : Option ℕ) (valued : Bool) → valued ≡ false → IsPlainNote (note_of k c n valued)
+plain_note None c n valued e = tt
+plain_note (Some t) c n false e = tt
+plain_note (Some t) c n true e = cc
 
-pub written_place : (r : Taken) (a : Sort) → is_written r ≡ true → MayBeTaken r a → IsScalarPlace a
-written_place Read a e h = cc
-written_place Addressed a e h = cc
-written_place Written a e h = h
-written_place Changed a e h = h
+-- a place by its form has no value in its note
+pub placed_plain : (p o : Pos) (f : ExprShape) (s : State) → is_place (type_form p o f s).form ≡ true → (let x = (type_form p o f s).typing in x.sort.place ≡ true → IsPlainNote (note_of x.sort.kind x.sort.constant x.names x.valued))
+placed_plain p o f s here e = let x = (type_form p o f s).typing in plain_note x.sort.kind x.sort.constant x.names x.valued (place_plain p o f s here e)
+
+pub written_place : (r : Taken) (d : Side) (a : Sort) → is_written r ≡ true → MayBeTaken r d a → IsProbedPlace (is_copied def d) a
+written_place Read d a e h = cc
+written_place Addressed d a e h = cc
+written_place Copied d a e h = cc
+written_place Written d a e h = h
+written_place Changed d a e h = (h.0, probed_too (is_copied def d) a.kind h.1)
+
+-- one by its form that is used
+read_place : (d : Side) (p o : Pos) (f : ExprShape) (s : State) → is_place (type_form p o f s).form ≡ true → HasScalarNote (type_form p o f s).typing → IsProbedPlace (is_copied used d) (type_form p o f s).typing.sort
+read_place d p o f s here h =
+    let x = (type_form p o f s).typing in
+    (form_placed p o f s here h, probed_too (is_copied used d) x.sort.kind (scalar_kind x.sort.kind x.sort.constant x.names x.valued h))
+
+pub used_place : (r : Taken) (d : Side) (p o : Pos) (f : ExprShape) (s : State) → is_place (type_form p o f s).form ≡ true → (
+    let x = (type_form p o f s).typing in
+    is_used r (note_of x.sort.kind x.sort.constant x.names x.valued) ≡ true → MayBeTaken r d x.sort → IsProbedPlace (is_copied used d) x.sort)
+used_place Read d p o f s here e h = read_place d p o f s here e
+used_place Changed d p o f s here e h = read_place d p o f s here e
+used_place Copied d p o f s here e h = h
+used_place Written d p o f s here e h = cc
+used_place Addressed d p o f s here e h = cc

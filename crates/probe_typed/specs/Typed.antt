@@ -1,22 +1,23 @@
 -- What is typed of expressions with their probes, behind a typing of the expressions without them in which nothing is complained of: the
 -- expressions with their probes as they stand, with the notes that they have, and the sort of those without.
-use Rattle.std.specs.Prelude.{◌≡◌, ℕ, List, Bool, true, Option, Some, None, option_map}
+use Rattle.std.specs.Prelude.{◌≡◌, ℕ, List, Bool, true, false, Option, Some, None, option_map}
 use Rattle.c_base.specs.declared.place.Pos.{Pos}
-use Rattle.c_syntax.specs.Shape.{TypeOf, NodeShape, NodeShapes, MaybeNode}
+use Rattle.c_syntax.specs.Shape.{TypeOf, used, def, NodeShape, NodeShapes, MaybeNode}
 use Rattle.c_syntax.specs.Shaped.{Shaped, ShapedNodes, ShapedMaybe}
-use Rattle.c_type_rules.specs.Kinds.{is_scalar, decay}
-use Rattle.c_type_rules.specs.Verdicts.{truth_type}
+use Rattle.c_type_rules.specs.Kinds.{decay}
+use Rattle.c_type_rules.specs.Verdicts.{is_probed, truth_type}
+use Rattle.c_tree.specs.declared.meaning.Side.{Side}
 use Rattle.c_tree.specs.State.{State}
 use Rattle.c_tree.specs.Rulings.{by, kind_at}
 use Rattle.c_tree.specs.Sorts.{Sort, TypedNode}
-use Rattle.c_tree.specs.Operators.{Given}
+use Rattle.c_tree.specs.Operators.{Given, is_copied}
 use Rattle.c_tree.specs.Parts.{TypedNodes}
 use Rattle.c_tree.specs.Complaints.{wrong_type}
 use Rattle.c_tree.specs.Typing.{type_node, type_arguments}
 use Rattle.c_tree.specs.Stating.{TypedMaybe, tested, type_maybe, type_test, type_result}
 use Rattle.c_walk.specs.declared.around.Around.{Around}
 use Rattle.c_walk.specs.declared.around.Taken.{Taken}
-use Rattle.c_walk.specs.declared.around.Taken.TheVariants.{Read, Written, Changed, Addressed}
+use Rattle.c_walk.specs.declared.around.Taken.TheVariants.{Read, Written, Changed, Copied, Addressed}
 use Rattle.c_walk.specs.Walked.{Walked}
 use Rattle.c_walk.specs.Walking.{walk_node, walk_test, walk_arm, walk_nodes, walk_maybe, walk_loop_test, walk_maybe_test, walk_step}
 use Rattle.c_sites_probes.specs.Marked.{node_mark, nodes_mark, maybe_mark}
@@ -28,20 +29,23 @@ use Rattle.probe_rules.proofs.SameConstants.{AreAlike}
 use Rattle.probe_laws.proofs.Settled.{IsThere, IsClean}
 use Rattle.probe_laws.proofs.Known.{Knows}
 
--- ---- how an expression may be taken: what is written is a place of a scalar
+-- ---- how an expression may be taken, on a side of `=` or on neither
 
-abbrev pub HasScalarType : Option TypeOf → Type 0
-HasScalarType None = ⊥
-HasScalarType (Some t) = is_scalar t ≡ true
+abbrev pub HasProbedType : Bool → Option TypeOf → Type 0
+HasProbedType copied None = ⊥
+HasProbedType copied (Some t) = is_probed copied t ≡ true
 
-abbrev pub IsScalarPlace : Sort → Type 0
-IsScalarPlace a = (a.place ≡ true) × HasScalarType a.kind
+-- what a probe of a use or of a definition may stand round: a place of a scalar, or of a structure that is copied
+abbrev pub IsProbedPlace : Bool → Sort → Type 0
+IsProbedPlace copied a = (a.place ≡ true) × HasProbedType copied a.kind
 
-abbrev pub MayBeTaken : Taken → Sort → Type 0
-MayBeTaken Read a = Unit {0}
-MayBeTaken Addressed a = Unit {0}
-MayBeTaken Written a = IsScalarPlace a
-MayBeTaken Changed a = IsScalarPlace a
+-- such a place is what is written, changed or copied
+abbrev pub MayBeTaken : Taken → Side → Sort → Type 0
+MayBeTaken Read d a = Unit {0}
+MayBeTaken Addressed d a = Unit {0}
+MayBeTaken Written d a = IsProbedPlace (is_copied def d) a
+MayBeTaken Changed d a = IsProbedPlace false a
+MayBeTaken Copied d a = IsProbedPlace (is_copied used d) a
 
 -- it may stand at a test position
 abbrev pub MayBeTested : Sort → Type 0
@@ -89,7 +93,7 @@ NodesAreTypedAs = (b : Bool) (c : Around) (r : Taken) (a : NodeShape) (w : Walke
     let x = type_node a s in
     let p = probed_node c r x.node w in
     let v = walk_node c r x.node w in
-    IsClean x.state → MayBeTaken r x.sort → HasFewItems v → Follows w s t → IsTypedAs v x p (type_node p t))
+    IsClean x.state → MayBeTaken r s.side x.sort → HasFewItems v → Follows w s t → IsTypedAs v x p (type_node p t))
 
 -- an expression at a test position, and as the test of a loop
 abbrev pub TestsAreTypedNear : Type 0

@@ -1,3 +1,4 @@
 mod Params
 mod FileScope
 pub mod Units
+mod Worked

@@ -90,6 +90,7 @@ impl<'p> Work<'p> {
             | Wait::Probe
             | Wait::Place
             | Wait::Read
+            | Wait::Copy(_)
             | Wait::Comma
             | Wait::Argument(_, _, _) => unreachable!(),
         }

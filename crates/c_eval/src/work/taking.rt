@@ -11,7 +11,7 @@ ghost use Rattle.c_meaning.specs.Knot.{Knot};
 ghost use Rattle.c_meaning.specs.Expressions.{cast_value};
 ghost use Rattle.c_meaning.specs.Constants.{kind_noted};
 ghost use Rattle.c_world.specs.World.{state_of};
-ghost use Rattle.c_eval.specs.Rest.{Val, Spot, to_value, does, on_operand, on_found, on_second, on_written, on_combined, on_comma, left, rest, rest_after, weight, weights, size, size_after, Lower};
+ghost use Rattle.c_eval.specs.Rest.{Val, Spot, to_value, does, on_operand, on_found, on_second, on_written, on_combined, on_copied, on_comma, left, rest, rest_after, weight, weights, size, size_after, Lower};
 ghost use Rattle.c_eval_once.specs.Parts.{value, place};
 ghost use Rattle.c_eval.specs.Forms.{takes_none, is_choosing};
 ghost use Rattle.c_eval_once.specs.Forms.{Kept};
@@ -33,7 +33,7 @@ use c_syntax::tree::{Expr, Node, UnaryOp};
 use c_tables::tables::Tables;
 use c_world::world::World;
 
-#[tactic(auto, using(crate::proofs::Steps::frames_push, crate::proofs::Steps::weights_push, crate::proofs::Steps::then_then, crate::proofs::Steps::lower, crate::proofs::Steps::last_then, crate::proofs::Roles::operand_spot, crate::proofs::Roles::second_spot, crate::proofs::Roles::second_none, crate::proofs::Roles::written_spot, crate::proofs::Roles::written_none, crate::proofs::Roles::combined_spot, crate::proofs::Roles::combined_none, crate::proofs::Roles::comma_spot, crate::proofs::Roles::found_value))]
+#[tactic(auto, using(crate::proofs::Steps::frames_push, crate::proofs::Steps::weights_push, crate::proofs::Steps::then_then, crate::proofs::Steps::lower, crate::proofs::Steps::last_then, crate::proofs::Roles::operand_spot, crate::proofs::Roles::second_spot, crate::proofs::Roles::second_none, crate::proofs::Roles::written_spot, crate::proofs::Roles::written_none, crate::proofs::Roles::combined_spot, crate::proofs::Roles::combined_none, crate::proofs::Roles::copied_value, crate::proofs::Roles::comma_spot, crate::proofs::Roles::found_value))]
 impl<'p> Work<'p> {
     // A value or none, for one frame.
     pub(super) fn take(
@@ -73,7 +73,9 @@ impl<'p> Work<'p> {
                 let step = self.take_argument(tables, world, node, kinds, others, done, present)?;
                 Ok(step)
             }
-            Wait::Place | Wait::Read => Ok(Step::Stopped(Stop::Fault(Fault::NoResult))),
+            Wait::Place | Wait::Read | Wait::Copy(_) => {
+                Ok(Step::Stopped(Stop::Fault(Fault::NoResult)))
+            }
             Wait::Probe => unreachable!(),
         }
     }
@@ -286,6 +288,10 @@ impl<'p> Work<'p> {
                 let step = self.take_found(tables, world, node, at)?;
                 Ok(step)
             }
+            Wait::Copy(to) => {
+                let step = self.take_copied(world, node, to, at)?;
+                Ok(step)
+            }
             Wait::Operand
             | Wait::Probe
             | Wait::Second(_)
@@ -313,8 +319,8 @@ impl<'p> Work<'p> {
         ensures turns { OnOk result (world.new.turns ≤ world.old.turns) }
     {
         match &node.form {
-            Expr::Assign(None, _, b) => {
-                let step = self.last(tables, world, node, Wait::Into(at), b)?;
+            Expr::Assign(None, a, b) => {
+                let step = self.take_assigned(tables, world, node, a, b, at)?;
                 Ok(step)
             }
             Expr::Assign(Some(_), a, b) => match load(world, a, at)? {

@@ -100,93 +100,93 @@ nodes::type_single-returns-in_ok-typing-in-Probe-clause-typing t c = c.in_ok-typ
 pub nodes::type_single-returns-in_ok-typing-in-Probe-clause-state : goal.nodes::type_single-returns-in_ok-typing-in-Probe-clause-state
 nodes::type_single-returns-in_ok-typing-in-Probe-clause-state t c = c.in_ok-typing-in-Probe.ensures.state ∙ ap (λ (r : Formed). r.state) (probe_typed c.args.pos c.args.op_pos (state_of c.args.checker.now) c.args.form.now _ _ _ _ _ c.in-Probe.is c.in-Probe.mark-is c.in-Probe.a-is c.deref_mut-in-Probe.ensures.value)
 
-pub nodes::type_pair-returns-in_ok-typing-in-Index-clause-tree : goal.nodes::type_pair-returns-in_ok-typing-in-Index-clause-tree
-nodes::type_pair-returns-in_ok-typing-in-Index-clause-tree t c =
+pub pairs::type_pair-returns-in_ok-typing-in-Index-clause-tree : goal.pairs::type_pair-returns-in_ok-typing-in-Index-clause-tree
+pairs::type_pair-returns-in_ok-typing-in-Index-clause-tree t c =
     let e = index_form c.args.form.now _ _ _ _ _ _ c.in-Index.is c.in-Index.a-is c.in-Index.b-is c.deref_mut.ensures.value c.deref_mut-in-Index.ensures.value in
     c.in_ok-typing-in-Index.ensures.tree ∙ ap (λ x. (type_form c.args.pos c.args.op_pos x (state_of c.args.checker.now)).form) (sym e)
 
-pub nodes::type_pair-returns-in_ok-typing-in-Index-clause-typing : goal.nodes::type_pair-returns-in_ok-typing-in-Index-clause-typing
-nodes::type_pair-returns-in_ok-typing-in-Index-clause-typing t c =
+pub pairs::type_pair-returns-in_ok-typing-in-Index-clause-typing : goal.pairs::type_pair-returns-in_ok-typing-in-Index-clause-typing
+pairs::type_pair-returns-in_ok-typing-in-Index-clause-typing t c =
     let e = index_form c.args.form.now _ _ _ _ _ _ c.in-Index.is c.in-Index.a-is c.in-Index.b-is c.deref_mut.ensures.value c.deref_mut-in-Index.ensures.value in
     c.in_ok-typing-in-Index.ensures.typing ∙ ap (λ x. (type_form c.args.pos c.args.op_pos x (state_of c.args.checker.now)).typing) (sym e)
 
-pub nodes::type_pair-returns-in_ok-typing-in-Index-clause-state : goal.nodes::type_pair-returns-in_ok-typing-in-Index-clause-state
-nodes::type_pair-returns-in_ok-typing-in-Index-clause-state t c =
+pub pairs::type_pair-returns-in_ok-typing-in-Index-clause-state : goal.pairs::type_pair-returns-in_ok-typing-in-Index-clause-state
+pairs::type_pair-returns-in_ok-typing-in-Index-clause-state t c =
     let e = index_form c.args.form.now _ _ _ _ _ _ c.in-Index.is c.in-Index.a-is c.in-Index.b-is c.deref_mut.ensures.value c.deref_mut-in-Index.ensures.value in
     c.in_ok-typing-in-Index.ensures.state ∙ ap (λ x. (type_form c.args.pos c.args.op_pos x (state_of c.args.checker.now)).state) (sym e)
 
-pub nodes::type_pair-returns-in_ok-typing-in-Binary-clause-tree : goal.nodes::type_pair-returns-in_ok-typing-in-Binary-clause-tree
-nodes::type_pair-returns-in_ok-typing-in-Binary-clause-tree t c =
+pub pairs::type_pair-returns-in_ok-typing-in-Binary-clause-tree : goal.pairs::type_pair-returns-in_ok-typing-in-Binary-clause-tree
+pairs::type_pair-returns-in_ok-typing-in-Binary-clause-tree t c =
     let e = binary_form c.args.form.now _ _ _ _ _ _ _ _ c.in-Binary.is c.in-Binary.op-is c.in-Binary.a-is c.in-Binary.b-is c.deref_mut-in-Binary.ensures.value c.deref_mut-in-Binary-2.ensures.value in
     c.in_ok-typing-in-Binary.ensures.tree ∙ ap (λ x. (type_form c.args.pos c.args.op_pos x (state_of c.args.checker.now)).form) (sym e)
 
-pub nodes::type_pair-returns-in_ok-typing-in-Binary-clause-typing : goal.nodes::type_pair-returns-in_ok-typing-in-Binary-clause-typing
-nodes::type_pair-returns-in_ok-typing-in-Binary-clause-typing t c =
+pub pairs::type_pair-returns-in_ok-typing-in-Binary-clause-typing : goal.pairs::type_pair-returns-in_ok-typing-in-Binary-clause-typing
+pairs::type_pair-returns-in_ok-typing-in-Binary-clause-typing t c =
     let e = binary_form c.args.form.now _ _ _ _ _ _ _ _ c.in-Binary.is c.in-Binary.op-is c.in-Binary.a-is c.in-Binary.b-is c.deref_mut-in-Binary.ensures.value c.deref_mut-in-Binary-2.ensures.value in
     c.in_ok-typing-in-Binary.ensures.typing ∙ ap (λ x. (type_form c.args.pos c.args.op_pos x (state_of c.args.checker.now)).typing) (sym e)
 
-pub nodes::type_pair-returns-in_ok-typing-in-Binary-clause-state : goal.nodes::type_pair-returns-in_ok-typing-in-Binary-clause-state
-nodes::type_pair-returns-in_ok-typing-in-Binary-clause-state t c =
+pub pairs::type_pair-returns-in_ok-typing-in-Binary-clause-state : goal.pairs::type_pair-returns-in_ok-typing-in-Binary-clause-state
+pairs::type_pair-returns-in_ok-typing-in-Binary-clause-state t c =
     let e = binary_form c.args.form.now _ _ _ _ _ _ _ _ c.in-Binary.is c.in-Binary.op-is c.in-Binary.a-is c.in-Binary.b-is c.deref_mut-in-Binary.ensures.value c.deref_mut-in-Binary-2.ensures.value in
     c.in_ok-typing-in-Binary.ensures.state ∙ ap (λ x. (type_form c.args.pos c.args.op_pos x (state_of c.args.checker.now)).state) (sym e)
 
-pub nodes::type_pair-returns-in_ok-typing-in-And-clause-tree : goal.nodes::type_pair-returns-in_ok-typing-in-And-clause-tree
-nodes::type_pair-returns-in_ok-typing-in-And-clause-tree t c =
+pub pairs::type_pair-returns-in_ok-typing-in-And-clause-tree : goal.pairs::type_pair-returns-in_ok-typing-in-And-clause-tree
+pairs::type_pair-returns-in_ok-typing-in-And-clause-tree t c =
     let e = and_form c.args.form.now _ _ _ _ _ _ c.in-And.is c.in-And.a-is c.in-And.b-is c.deref_mut-in-And.ensures.value c.deref_mut-in-And-2.ensures.value in
     c.in_ok-typing-in-And.ensures.tree ∙ ap (λ x. (type_form c.args.pos c.args.op_pos x (state_of c.args.checker.now)).form) (sym e)
 
-pub nodes::type_pair-returns-in_ok-typing-in-And-clause-typing : goal.nodes::type_pair-returns-in_ok-typing-in-And-clause-typing
-nodes::type_pair-returns-in_ok-typing-in-And-clause-typing t c =
+pub pairs::type_pair-returns-in_ok-typing-in-And-clause-typing : goal.pairs::type_pair-returns-in_ok-typing-in-And-clause-typing
+pairs::type_pair-returns-in_ok-typing-in-And-clause-typing t c =
     let e = and_form c.args.form.now _ _ _ _ _ _ c.in-And.is c.in-And.a-is c.in-And.b-is c.deref_mut-in-And.ensures.value c.deref_mut-in-And-2.ensures.value in
     c.in_ok-typing-in-And.ensures.typing ∙ ap (λ x. (type_form c.args.pos c.args.op_pos x (state_of c.args.checker.now)).typing) (sym e)
 
-pub nodes::type_pair-returns-in_ok-typing-in-And-clause-state : goal.nodes::type_pair-returns-in_ok-typing-in-And-clause-state
-nodes::type_pair-returns-in_ok-typing-in-And-clause-state t c =
+pub pairs::type_pair-returns-in_ok-typing-in-And-clause-state : goal.pairs::type_pair-returns-in_ok-typing-in-And-clause-state
+pairs::type_pair-returns-in_ok-typing-in-And-clause-state t c =
     let e = and_form c.args.form.now _ _ _ _ _ _ c.in-And.is c.in-And.a-is c.in-And.b-is c.deref_mut-in-And.ensures.value c.deref_mut-in-And-2.ensures.value in
     c.in_ok-typing-in-And.ensures.state ∙ ap (λ x. (type_form c.args.pos c.args.op_pos x (state_of c.args.checker.now)).state) (sym e)
 
-pub nodes::type_pair-returns-in_ok-typing-in-Or-clause-tree : goal.nodes::type_pair-returns-in_ok-typing-in-Or-clause-tree
-nodes::type_pair-returns-in_ok-typing-in-Or-clause-tree t c =
+pub pairs::type_pair-returns-in_ok-typing-in-Or-clause-tree : goal.pairs::type_pair-returns-in_ok-typing-in-Or-clause-tree
+pairs::type_pair-returns-in_ok-typing-in-Or-clause-tree t c =
     let e = or_form c.args.form.now _ _ _ _ _ _ c.in-Or.is c.in-Or.a-is c.in-Or.b-is c.deref_mut-in-Or.ensures.value c.deref_mut-in-Or-2.ensures.value in
     c.in_ok-typing-in-Or.ensures.tree ∙ ap (λ x. (type_form c.args.pos c.args.op_pos x (state_of c.args.checker.now)).form) (sym e)
 
-pub nodes::type_pair-returns-in_ok-typing-in-Or-clause-typing : goal.nodes::type_pair-returns-in_ok-typing-in-Or-clause-typing
-nodes::type_pair-returns-in_ok-typing-in-Or-clause-typing t c =
+pub pairs::type_pair-returns-in_ok-typing-in-Or-clause-typing : goal.pairs::type_pair-returns-in_ok-typing-in-Or-clause-typing
+pairs::type_pair-returns-in_ok-typing-in-Or-clause-typing t c =
     let e = or_form c.args.form.now _ _ _ _ _ _ c.in-Or.is c.in-Or.a-is c.in-Or.b-is c.deref_mut-in-Or.ensures.value c.deref_mut-in-Or-2.ensures.value in
     c.in_ok-typing-in-Or.ensures.typing ∙ ap (λ x. (type_form c.args.pos c.args.op_pos x (state_of c.args.checker.now)).typing) (sym e)
 
-pub nodes::type_pair-returns-in_ok-typing-in-Or-clause-state : goal.nodes::type_pair-returns-in_ok-typing-in-Or-clause-state
-nodes::type_pair-returns-in_ok-typing-in-Or-clause-state t c =
+pub pairs::type_pair-returns-in_ok-typing-in-Or-clause-state : goal.pairs::type_pair-returns-in_ok-typing-in-Or-clause-state
+pairs::type_pair-returns-in_ok-typing-in-Or-clause-state t c =
     let e = or_form c.args.form.now _ _ _ _ _ _ c.in-Or.is c.in-Or.a-is c.in-Or.b-is c.deref_mut-in-Or.ensures.value c.deref_mut-in-Or-2.ensures.value in
     c.in_ok-typing-in-Or.ensures.state ∙ ap (λ x. (type_form c.args.pos c.args.op_pos x (state_of c.args.checker.now)).state) (sym e)
 
-pub nodes::type_pair-returns-in_ok-typing-in-Assign-clause-tree : goal.nodes::type_pair-returns-in_ok-typing-in-Assign-clause-tree
-nodes::type_pair-returns-in_ok-typing-in-Assign-clause-tree t c =
+pub pairs::type_pair-returns-in_ok-typing-in-Assign-clause-tree : goal.pairs::type_pair-returns-in_ok-typing-in-Assign-clause-tree
+pairs::type_pair-returns-in_ok-typing-in-Assign-clause-tree t c =
     let e = assign_form c.args.form.now _ _ _ _ _ _ _ _ c.in-Assign.is c.in-Assign.op-is c.in-Assign.a-is c.in-Assign.b-is c.deref_mut-in-Assign.ensures.value c.deref_mut-in-Assign-2.ensures.value in
     c.in_ok-typing-in-Assign.ensures.tree ∙ ap (λ x. (type_form c.args.pos c.args.op_pos x (state_of c.args.checker.now)).form) (sym e)
 
-pub nodes::type_pair-returns-in_ok-typing-in-Assign-clause-typing : goal.nodes::type_pair-returns-in_ok-typing-in-Assign-clause-typing
-nodes::type_pair-returns-in_ok-typing-in-Assign-clause-typing t c =
+pub pairs::type_pair-returns-in_ok-typing-in-Assign-clause-typing : goal.pairs::type_pair-returns-in_ok-typing-in-Assign-clause-typing
+pairs::type_pair-returns-in_ok-typing-in-Assign-clause-typing t c =
     let e = assign_form c.args.form.now _ _ _ _ _ _ _ _ c.in-Assign.is c.in-Assign.op-is c.in-Assign.a-is c.in-Assign.b-is c.deref_mut-in-Assign.ensures.value c.deref_mut-in-Assign-2.ensures.value in
     c.in_ok-typing-in-Assign.ensures.typing ∙ ap (λ x. (type_form c.args.pos c.args.op_pos x (state_of c.args.checker.now)).typing) (sym e)
 
-pub nodes::type_pair-returns-in_ok-typing-in-Assign-clause-state : goal.nodes::type_pair-returns-in_ok-typing-in-Assign-clause-state
-nodes::type_pair-returns-in_ok-typing-in-Assign-clause-state t c =
+pub pairs::type_pair-returns-in_ok-typing-in-Assign-clause-state : goal.pairs::type_pair-returns-in_ok-typing-in-Assign-clause-state
+pairs::type_pair-returns-in_ok-typing-in-Assign-clause-state t c =
     let e = assign_form c.args.form.now _ _ _ _ _ _ _ _ c.in-Assign.is c.in-Assign.op-is c.in-Assign.a-is c.in-Assign.b-is c.deref_mut-in-Assign.ensures.value c.deref_mut-in-Assign-2.ensures.value in
     c.in_ok-typing-in-Assign.ensures.state ∙ ap (λ x. (type_form c.args.pos c.args.op_pos x (state_of c.args.checker.now)).state) (sym e)
 
-pub nodes::type_pair-returns-in_ok-typing-in-Comma-clause-tree : goal.nodes::type_pair-returns-in_ok-typing-in-Comma-clause-tree
-nodes::type_pair-returns-in_ok-typing-in-Comma-clause-tree t c =
+pub pairs::type_pair-returns-in_ok-typing-in-Comma-clause-tree : goal.pairs::type_pair-returns-in_ok-typing-in-Comma-clause-tree
+pairs::type_pair-returns-in_ok-typing-in-Comma-clause-tree t c =
     let e = comma_form c.args.form.now _ _ _ _ _ _ c.in-Comma.is c.in-Comma.a-is c.in-Comma.b-is c.deref_mut-in-Comma.ensures.value c.deref_mut-in-Comma-2.ensures.value in
     c.in_ok-typing-in-Comma.ensures.tree ∙ ap (λ x. (type_form c.args.pos c.args.op_pos x (state_of c.args.checker.now)).form) (sym e)
 
-pub nodes::type_pair-returns-in_ok-typing-in-Comma-clause-typing : goal.nodes::type_pair-returns-in_ok-typing-in-Comma-clause-typing
-nodes::type_pair-returns-in_ok-typing-in-Comma-clause-typing t c =
+pub pairs::type_pair-returns-in_ok-typing-in-Comma-clause-typing : goal.pairs::type_pair-returns-in_ok-typing-in-Comma-clause-typing
+pairs::type_pair-returns-in_ok-typing-in-Comma-clause-typing t c =
     let e = comma_form c.args.form.now _ _ _ _ _ _ c.in-Comma.is c.in-Comma.a-is c.in-Comma.b-is c.deref_mut-in-Comma.ensures.value c.deref_mut-in-Comma-2.ensures.value in
     c.in_ok-typing-in-Comma.ensures.typing ∙ ap (λ x. (type_form c.args.pos c.args.op_pos x (state_of c.args.checker.now)).typing) (sym e)
 
-pub nodes::type_pair-returns-in_ok-typing-in-Comma-clause-state : goal.nodes::type_pair-returns-in_ok-typing-in-Comma-clause-state
-nodes::type_pair-returns-in_ok-typing-in-Comma-clause-state t c =
+pub pairs::type_pair-returns-in_ok-typing-in-Comma-clause-state : goal.pairs::type_pair-returns-in_ok-typing-in-Comma-clause-state
+pairs::type_pair-returns-in_ok-typing-in-Comma-clause-state t c =
     let e = comma_form c.args.form.now _ _ _ _ _ _ c.in-Comma.is c.in-Comma.a-is c.in-Comma.b-is c.deref_mut-in-Comma.ensures.value c.deref_mut-in-Comma-2.ensures.value in
     c.in_ok-typing-in-Comma.ensures.state ∙ ap (λ x. (type_form c.args.pos c.args.op_pos x (state_of c.args.checker.now)).state) (sym e)
 

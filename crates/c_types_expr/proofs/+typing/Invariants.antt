@@ -25,8 +25,8 @@ decreases-nodes::type_form l = 8 * form_weight (expr_shape l.form.now) + 7
 abbrev pub decreases-nodes::type_single : goal.decreases-nodes::type_single
 decreases-nodes::type_single l = 8 * form_weight (expr_shape l.form.now) + 6
 
-abbrev pub decreases-nodes::type_pair : goal.decreases-nodes::type_pair
-decreases-nodes::type_pair l = 8 * form_weight (expr_shape l.form.now) + 6
+abbrev pub decreases-pairs::type_pair : goal.decreases-pairs::type_pair
+decreases-pairs::type_pair l = 8 * form_weight (expr_shape l.form.now) + 6
 
 abbrev pub decreases-nodes::type_other : goal.decreases-nodes::type_other
 decreases-nodes::type_other l = 8 * form_weight (expr_shape l.form.now) + 6
@@ -61,14 +61,14 @@ decreases-nodes::type_probed l = 8 * (probe_weight (probe_shape l.mark.now) + no
 abbrev pub decreases-nodes::type_select : goal.decreases-nodes::type_select
 decreases-nodes::type_select l = 8 * (nodes_weight (node_list l.cases.now.items) + node_weight (node_shape l.a.now)) + 1
 
-abbrev pub decreases-nodes::type_operands : goal.decreases-nodes::type_operands
-decreases-nodes::type_operands l = 8 * (node_weight (node_shape l.a.now) + node_weight (node_shape l.b.now)) + 1
+abbrev pub decreases-pairs::type_operands : goal.decreases-pairs::type_operands
+decreases-pairs::type_operands l = 8 * (node_weight (node_shape l.a.now) + node_weight (node_shape l.b.now)) + 1
 
-abbrev pub decreases-nodes::type_index : goal.decreases-nodes::type_index
-decreases-nodes::type_index l = 8 * (node_weight (node_shape l.a.now) + node_weight (node_shape l.b.now)) + 2
+abbrev pub decreases-pairs::type_index : goal.decreases-pairs::type_index
+decreases-pairs::type_index l = 8 * (node_weight (node_shape l.a.now) + node_weight (node_shape l.b.now)) + 2
 
-abbrev pub decreases-nodes::type_infix : goal.decreases-nodes::type_infix
-decreases-nodes::type_infix l = 8 * (node_weight (node_shape l.a.now) + node_weight (node_shape l.b.now)) + 2
+abbrev pub decreases-pairs::type_infix : goal.decreases-pairs::type_infix
+decreases-pairs::type_infix l = 8 * (node_weight (node_shape l.a.now) + node_weight (node_shape l.b.now)) + 2
 
 abbrev pub decreases-nodes::type_name_size : goal.decreases-nodes::type_name_size
 decreases-nodes::type_name_size l = 8 * type_weight (type_shape l.name.now) + 1

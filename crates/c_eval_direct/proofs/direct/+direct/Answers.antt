@@ -67,10 +67,11 @@ value-assigned-requires n c = (
 )
 
 pub value-changed-requires : goal.value-changed-requires
-value-changed-requires n c = (
-  omega (arith, c.decreases, two_size c.args.node.now c.in-Assign.a c.in-Assign.b c.deref-in-Some.result.now c.deref-in-Some-2.result.now (ap parts c.in-Assign.is) c.deref-in-Some.ensures c.deref-in-Some-2.ensures),
-  assign_parts c.args.node.now.note c.args.node.now.form c.in-Assign.way (Some c.in-Some.op) c.in-Assign.a c.in-Assign.b c.deref-in-Some.result.now c.deref-in-Some-2.result.now c.requires c.in-Assign.is c.in-Some.is c.deref-in-Some.ensures c.deref-in-Some-2.ensures,
-)
+value-changed-requires n c =
+    let parts_are = assign_parts c.args.node.now.note c.args.node.now.form c.in-Assign.way (Some c.in-Some.op) c.in-Assign.a c.in-Assign.b c.deref-in-Some.result.now c.deref-in-Some-2.result.now c.requires c.in-Assign.is c.in-Some.is c.deref-in-Some.ensures c.deref-in-Some-2.ensures in (
+      omega (arith, c.decreases, two_size c.args.node.now c.in-Assign.a c.in-Assign.b c.deref-in-Some.result.now c.deref-in-Some-2.result.now (ap parts c.in-Assign.is) c.deref-in-Some.ensures c.deref-in-Some-2.ensures),
+      (parts_are.0, parts_are.1.1),
+    )
 
 pub value-turned-requires : goal.value-turned-requires
 value-turned-requires n c =

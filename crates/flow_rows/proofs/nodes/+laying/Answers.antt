@@ -82,11 +82,11 @@ lay_node-returns-in_ok-lay_arm-in-Cond-2 t c =
 
 pub lay_node-returns-in_ok-lay_node-in-Assign-2 : goal.lay_node-returns-in_ok-lay_node-in-Assign-2
 lay_node-returns-in_ok-lay_node-in-Assign-2 t c =
-    let a = node_shape c.deref-in-Assign-3.result.now in
-    let b = node_shape c.deref-in-Assign-4.result.now in
-    assign_arm (tables_shape c.args.tables.now) c.args.taken c.args.node.now.pos (note_shape c.args.node.now.note) (expr_shape c.args.node.now.form) c.args.to c.args.at _ _ _ _ _ c.in_ok-behind-in-Assign.behind c.in-Assign.op c.left_taken-left.result a b
-    (rw (c.in-Assign.is, c.deref-in-Assign-3.ensures, c.deref-in-Assign-4.ensures) refl) c.left_taken-left.ensures c.in_ok-behind-in-Assign.ensures.grown (rw (c.deref-in-Assign-3.ensures, sym c.deref-in-Assign.ensures) c.in_ok-behind-in-Assign.ensures.led)
-    (assign_placed (tables_shape c.args.tables.now) _ _ _ _ _ _ _ _ c.args.at c.in_ok-second-in-Assign.second c.in_ok-changed-in-Assign.changed c.in_ok-behind-in-Assign.behind c.left_taken-left.result a b c.in_ok-second-in-Assign.ensures.grown c.in_ok-changed-in-Assign.ensures.grown (rw (c.deref-in-Assign-3.ensures, sym c.deref-in-Assign-2.ensures) c.in_ok-changed-in-Assign.ensures.led) c.in_ok-lay_node-in-Assign.ensures c.in_ok-lay_node-in-Assign-2.ensures)
+    let a = node_shape c.deref-in-Assign-4.result.now in
+    let b = node_shape c.deref-in-Assign-5.result.now in
+    assign_arm (tables_shape c.args.tables.now) c.args.taken c.args.node.now.pos (note_shape c.args.node.now.note) (expr_shape c.args.node.now.form) c.args.to c.args.at _ _ _ _ _ c.in_ok-behind-in-Assign.behind c.in-Assign.op c.left_taken-left.result c.right_taken-right.result a b
+    (rw (c.in-Assign.is, c.deref-in-Assign-4.ensures, c.deref-in-Assign-5.ensures) refl) c.left_taken-left.ensures (rw (c.deref-in-Assign-4.ensures, sym c.deref-in-Assign.ensures) c.right_taken-right.ensures) c.in_ok-behind-in-Assign.ensures.grown (rw (c.deref-in-Assign-4.ensures, sym c.deref-in-Assign-2.ensures) c.in_ok-behind-in-Assign.ensures.led)
+    (assign_placed (tables_shape c.args.tables.now) _ _ _ _ _ _ _ _ c.args.at c.in_ok-second-in-Assign.second c.in_ok-changed-in-Assign.changed c.in_ok-behind-in-Assign.behind c.left_taken-left.result c.right_taken-right.result a b c.in_ok-second-in-Assign.ensures.grown c.in_ok-changed-in-Assign.ensures.grown (rw (c.deref-in-Assign-4.ensures, sym c.deref-in-Assign-3.ensures) c.in_ok-changed-in-Assign.ensures.led) c.in_ok-lay_node-in-Assign.ensures c.in_ok-lay_node-in-Assign-2.ensures)
 
 pub lay_node-returns-in_ok-lay_loop_test-in-And : goal.lay_node-returns-in_ok-lay_loop_test-in-And
 lay_node-returns-in_ok-lay_loop_test-in-And t c =

@@ -13,3 +13,6 @@ returns-in-Written-clause-led c = rw c.in-Written.is (λ w e. self_led (rows_of 
 
 pub returns-in-Addressed-clause-led : goal.returns-in-Addressed-clause-led
 returns-in-Addressed-clause-led c = rw c.in-Addressed.is (λ w e. self_led (rows_of c.args.rows.now) c.args.to)
+
+pub returns-in-Copied-clause-led : goal.returns-in-Copied-clause-led
+returns-in-Copied-clause-led c = rw c.in-Copied.is (λ w e. self_led (rows_of c.args.rows.now) c.args.to)
