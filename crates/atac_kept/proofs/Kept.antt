@@ -34,8 +34,8 @@ use Rattle.probe_laws.specs.Laws.{IsTaken}
 use Rattle.probe_laws.specs.Owners.{owner_in_program}
 use Rattle.probe_laws.proofs.Laws.{taken_is_plain, taken_is_few}
 use Rattle.probe_laws.proofs.Owners.{program_owns, program_owns_few}
-use Rattle.probe_parsed.specs.Readable.{AreLexed}
-use Rattle.probe_parsed.proofs.BareForms.{tokens_same}
+use Rattle.c_tree.specs.Lexed.{AreLexed}
+use Rattle.c_tree.proofs.BareForms.{tokens_same}
 use Rattle.probe_text.specs.Text.{text_in}
 use Rattle.probe_reads.specs.ReadBack.{ReadsAs, IsWritten}
 use Rattle.probe_kept.specs.Kept.{RunsAs}

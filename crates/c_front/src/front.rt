@@ -2,7 +2,9 @@
 
 ghost use Rattle.std.specs.Prelude.{◌≤◌, length, IfOk, IfErr, MatchResult};
 ghost use Rattle.c_syntax.specs.View.{unit_shape};
-ghost use Rattle.c_tree.specs.Programs.{IsSound};
+ghost use Rattle.c_syntax.specs.Forms.{kinds_of};
+ghost use Rattle.c_tree.specs.Lexed.{AreLexed};
+ghost use Rattle.c_tree.specs.Programs.{IsSound, HasFewTokens};
 ghost use Rattle.c_front.specs.Front.{AreTokens, IsUnit, GivesProgram, IsRefused, IsOne};
 
 use c_base::place::Pos;
@@ -23,11 +25,12 @@ pub enum FrontRefusal {
 }
 
 // The tokens of a text.
-#[tactic(auto, using(crate::proofs::Few::few_enough))]
+#[tactic(auto, using(crate::proofs::Lexed::few_enough, crate::proofs::Lexed::are_lexed))]
 fn tokens_of(alloc: Global, text: &[u8], kind: TextKind) -> Result<Vec<Token>, FrontRefusal>
     requires { length text.now ≤ 67108864 }
     ensures tokens { IfOk result (λ v. AreTokens kind text.now v.items) }
     ensures few { IfOk result (λ v. length v.items ≤ 350000) }
+    ensures lexed { IfOk result (λ v. AreLexed (kinds_of v.items)) }
     ensures refused { IfErr result (λ e. IsRefused kind text.now e) }
 {
     match lex(alloc, text, kind) {
@@ -38,11 +41,12 @@ fn tokens_of(alloc: Global, text: &[u8], kind: TextKind) -> Result<Vec<Token>, F
 }
 
 // The unit of a text.
-#[tactic(auto, using(c_tree::proofs::Programs::is_sound))]
+#[tactic(auto, using(c_tree::proofs::Programs::is_sound, c_tree::proofs::Programs::has_few))]
 fn unit_of(alloc: Global, text: &[u8], kind: TextKind) -> Result<Unit, FrontRefusal>
     requires { length text.now ≤ 67108864 }
     ensures unit { IfOk result (λ u. IsUnit kind text.now (unit_shape u)) }
     ensures sound { IfOk result (λ u. IsSound (unit_shape u)) }
+    ensures few { IfOk result (λ u. HasFewTokens (unit_shape u)) }
     ensures refused { IfErr result (λ e. IsRefused kind text.now e) }
 {
     let tokens = tokens_of(alloc, text, kind)?;

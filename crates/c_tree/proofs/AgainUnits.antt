@@ -196,6 +196,9 @@ params_again defining (params ds) s u = ap listed_params (params_list_again defi
 same_function_type : (defining : Bool) (k : Option TypeOf) (stars : List Star) (x : Option Named) (qs ps : ParamsShape) (i : MaybeInit) (u : State) → ((v : State) → type_params defining qs v ≡ type_params defining ps v) → type_function defining k stars x qs i u ≡ type_function defining k stars x ps i u
 same_function_type defining k stars x qs ps i u h = rw (h _) refl
 
+pub function_again : (defining : Bool) (k : Option TypeOf) (stars : List Star) (x : Option Named) (ps : ParamsShape) (i : MaybeInit) (v u : State) → type_function defining k stars x (type_params defining ps v).params i u ≡ type_function defining k stars x ps i u
+function_again defining k stars x ps i v u = same_function_type defining k stars x _ ps i u (λ z. params_again defining ps v z)
+
 -- DECLARATORS
 
 declarator_again : (k j : Option TypeOf) (d : DeclaratorShape) (s u : State) → type_declarator k (type_declarator j d s).name u ≡ type_declarator k d u
@@ -271,7 +274,7 @@ result_again t r p q k j (one_node a) s u = rw (node_again a s u) refl
 abbrev case_behind : ℕ → ℕ → Pos → Pos → Option Labels → State → TypedNode → State
 case_behind token first p q o s t = step (case_state token p o (constants.value t.sort.constant) (judged_constant first q t.sort t.state))
 
-labels_again : (o w : Option Labels) (ls : List LabelShape) (s u : State) → type_labels w (type_labels o ls s).labels u ≡ type_labels w ls u
+pub labels_again : (o w : Option Labels) (ls : List LabelShape) (s u : State) → type_labels w (type_labels o ls s).labels u ≡ type_labels w ls u
 labels_again o w [] s u = refl
 labels_again o w (case p a ∷ rest) s u =
     let t = type_node a (step s) in

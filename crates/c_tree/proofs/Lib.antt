@@ -2,5 +2,8 @@ pub mod Worked
 pub mod Again
 pub mod AgainUnits
 pub mod Bare
+pub mod BareForms
+pub mod Grows
+pub mod GrowsUnits
 pub mod WorkedUnits
 pub mod Programs

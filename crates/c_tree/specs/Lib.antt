@@ -9,6 +9,7 @@ pub mod Initialisers
 pub mod Declaring
 pub mod Stating
 pub mod Units
+pub mod Lexed
 pub mod Programs
 pub mod Unnoted
 pub mod Erased

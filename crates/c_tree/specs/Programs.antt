@@ -6,13 +6,14 @@ use Rattle.c_syntax.specs.Shaped.{ShapedUnit}
 use Rattle.c_syntax.specs.Grammar.{tokens_of}
 use Rattle.c_constants.specs.Probes.{digest_of}
 use Rattle.c_tables.specs.Tables.{TablesShape}
+use Rattle.c_tree.specs.Lexed.{AreLexed}
 use Rattle.c_tree.specs.Units.{typed_unit, complaints}
 use Rattle.c_tree.specs.Erased.{erased_unit}
 
--- the grammar allows the unit, which has at most 350,000 tokens
+-- the grammar allows the unit, and its tokens are some that a text gives
 pub record IsSound (u : UnitShape) : Type 0 where
   pub shaped : ShapedUnit u
-  pub few : length (tokens_of u) ≤ 350000
+  pub lexed : AreLexed (tokens_of u)
 
 -- the unit is a sound one with the notes that typing makes, so that typing changes nothing more; it gives these tables, and
 -- complains of nothing
@@ -24,10 +25,19 @@ pub record IsProgram (u : UnitShape) (t : TablesShape) : Type 0 where
   pub tables : (typed_unit u).state.tables ≡ t
   pub clean : complaints u ≡ []
 
--- the unit is a program; or it is one but for its probes and its program line
-pub data HoldsProgram (u : UnitShape) (t : TablesShape) : Type 0 where
-  itself : IsProgram u t → HoldsProgram u t
-  with_probes : IsProgram (erased_unit u) t → HoldsProgram u t
+-- as many tokens as a text may have
+abbrev pub HasFewTokens : UnitShape → Type 0
+HasFewTokens u = length (tokens_of u) ≤ 350000
+
+-- the unit has few tokens; or it is a program of few tokens but for its probes and its program line, with the same tables
+pub data IsLimited (u : UnitShape) (t : TablesShape) : Type 0 where
+  itself : HasFewTokens u → IsLimited u t
+  without_probes : IsProgram (erased_unit u) t → HasFewTokens (erased_unit u) → IsLimited u t
+
+-- what a program holds
+pub record HoldsProgram (u : UnitShape) (t : TablesShape) : Type 0 where
+  pub program : IsProgram u t
+  pub limited : IsLimited u t
 
 -- the digest in the program line, if there is a line
 abbrev pub digest_in : Option ProgramLine → Option (List ℕ)

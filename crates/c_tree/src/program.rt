@@ -1,17 +1,17 @@
 //! Typed programs.
 
-ghost use Rattle.std.specs.Prelude.{◌≡◌, option_map};
+ghost use Rattle.std.specs.Prelude.{◌≡◌, option_map, is_some};
 ghost use Rattle.c_syntax.specs.View.{unit_shape};
-ghost use Rattle.c_tree.specs.Erased.{erased_unit};
 ghost use Rattle.c_tables.specs.Tables.{tables_shape};
-ghost use Rattle.c_tree.specs.Programs.{IsProgram, HoldsProgram, digest_in};
+ghost use Rattle.c_tree.specs.Programs.{HoldsProgram, digest_in};
 
 use crate::tree::Unit;
 use c_constants::probes;
 use c_tables::tables::Tables;
 
 /// A translation unit without complaint: each expression is noted with its type (C89, 3.3), and the tables hold the
-/// structures, functions, variables and strings that its types and notes name. Or such a unit with probes put in.
+/// structures, functions, variables and strings that its types and notes name. A text gives its tokens, and its program line,
+/// if there is one, has a digest. With probes put in it is one as well, and without them it is one.
 #[derive(Drop)]
 pub struct Program {
     unit: Unit,
@@ -20,18 +20,9 @@ pub struct Program {
 }
 
 impl Program {
-    /// The program of a unit that was typed, and of its tables.
+    /// The program of a unit that was typed, plain or with its probes, and of its tables.
     pub fn from_typed(unit: Unit, tables: Tables) -> Program
-        requires { ∥ IsProgram (unit_shape unit) (tables_shape tables) ∥₁ }
-        ensures unit { result.unit ≡ unit }
-        ensures tables { result.tables ≡ tables }
-    {
-        Program { unit, tables }
-    }
-
-    /// The program of a unit that was typed before probes were put into it, and of its tables.
-    pub fn with_probes(unit: Unit, tables: Tables) -> Program
-        requires { ∥ IsProgram (erased_unit (unit_shape unit)) (tables_shape tables) ∥₁ }
+        requires { ∥ HoldsProgram (unit_shape unit) (tables_shape tables) ∥₁ }
         ensures unit { result.unit ≡ unit }
         ensures tables { result.tables ≡ tables }
     {
@@ -54,9 +45,11 @@ impl Program {
         &self.tables
     }
 
-    /// The digest in the program line; None where there is no line.
+    /// The digest in the program line; None exactly where there is no line.
+    #[tactic(auto, using(crate::proofs::Programs::held_line))]
     pub fn digest(&self) -> Option<[u8; 32]>
-        ensures { result ≡ digest_in self.now.unit.line }
+        ensures digest { result ≡ digest_in self.now.unit.line }
+        ensures there { is_some result ≡ is_some self.now.unit.line }
     {
         let line = self.unit.line.as_ref()?;
         probes::digest(line.digest.bytes())

@@ -2,7 +2,7 @@
 
 ghost use Rattle.std.specs.Prelude.{◌≡◌, OnOk, IfOk, MatchResult, None, Some};
 ghost use Rattle.c_syntax.specs.View.{unit_shape};
-ghost use Rattle.c_tree.specs.Programs.{IsSound};
+ghost use Rattle.c_tree.specs.Programs.{IsSound, HasFewTokens};
 ghost use Rattle.c_tree.specs.Units.{type_unit, bodies, typed_unit};
 ghost use Rattle.c_checker.specs.CheckerView.{state_of};
 ghost use Rattle.c_types.specs.Checked.{IsChecked, IsRefused};
@@ -53,10 +53,11 @@ fn type_twice(alloc: Global, unit: &mut Unit) -> Result<Checker, NoMemory>
     Ok(checker)
 }
 
-/// The program that a unit is, which the grammar allows and which has at most 350,000 tokens: the unit with its notes, and
-/// its tables; or its first complaint, that of the least token and there of the least number.
+/// The program that a unit is, which the grammar allows and which has at most 350,000 tokens, such as a text gives: the unit with
+/// its notes, and its tables; or its first complaint, that of the least token and there of the least number.
 pub fn check(alloc: Global, unit: Unit) -> Result<Program, TypeRefusal>
-    requires { IsSound (unit_shape unit) }
+    requires sound { IsSound (unit_shape unit) }
+    requires few { HasFewTokens (unit_shape unit) }
     ensures { MatchResult result (IsChecked (unit_shape unit)) (IsRefused (unit_shape unit)) }
 {
     let mut unit = unit;

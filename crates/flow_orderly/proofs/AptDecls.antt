@@ -23,8 +23,8 @@ use Rattle.c_tree.specs.Initialisers.{length_in, length_in_form, lengths_with, f
 use Rattle.c_tree.specs.Declaring.{name_tokens, claim_mark, claim_name, token_of_name, variable_at, declare_variable, any_unclear, any_left_out, with_lengths, room_rule, variable_rule, has_init, type_maybe_init, type_variable, type_declarator, type_declarators, none_declared, semicolon, type_decl, type_decls}
 use Rattle.c_sites_probes.specs.Marked.{first, name_mark, lengths_mark, specs_mark, maybe_init_mark, init_mark, declarator_mark, declarators_mark, decl_mark, decls_mark}
 use Rattle.probe_rules.proofs.ReadyUnits.{none_first, none_second}
-use Rattle.probe_rules.proofs.Grows.{rule_grows}
-use Rattle.probe_rules.proofs.GrowsUnits.{inits_grow, maybe_init_grows, variable_at_grows, declarators_grow, decls_grow}
+use Rattle.c_tree.proofs.Grows.{rule_grows}
+use Rattle.c_tree.proofs.GrowsUnits.{inits_grow, maybe_init_grows, variable_at_grows, declarators_grow, decls_grow}
 use Rattle.probe_laws.proofs.Settled.{IsThere, IsClean, Settled, type_there, of_kind_settled, whole_settled}
 use Rattle.probe_laws.proofs.Rules.{back}
 use Rattle.probe_laws.proofs.Known.{Knows, Goes, stays, ◌▹◌, rule_goes, demand_goes}

@@ -15,8 +15,8 @@ use Rattle.c_tree.specs.Declaring.{type_decls, opened_scope}
 use Rattle.c_tree.specs.Stating.{Surroundings, in_loop, in_switch, Labels, no_labels, tested, switched, result_rule, type_maybe, type_test, type_result, type_marks, case_state, default_state, case_labels, default_labels, type_labels, type_stmt, type_body, type_compound, type_items}
 use Rattle.c_sites_probes.specs.Marked.{first, mark_among, node_mark, maybe_mark, decls_mark, labels_mark, stmt_mark, body_mark, compound_mark, items_mark}
 use Rattle.probe_rules.proofs.ReadyUnits.{none_first, none_second}
-use Rattle.probe_rules.proofs.Grows.{rule_grows}
-use Rattle.probe_rules.proofs.GrowsUnits.{maybe_grows, test_grows, maybe_test_grows, case_grows, labels_grow, stmt_grows, items_grow}
+use Rattle.c_tree.proofs.Grows.{rule_grows}
+use Rattle.c_tree.proofs.GrowsUnits.{maybe_grows, test_grows, maybe_test_grows, case_grows, labels_grow, stmt_grows, items_grow}
 use Rattle.probe_laws.proofs.Settled.{IsClean}
 use Rattle.probe_laws.proofs.Rules.{back}
 use Rattle.probe_laws.proofs.Known.{Knows, Goes, entered_holds, left_holds, stays, ◌▹◌, rule_goes, demand_goes}

@@ -21,8 +21,8 @@ use Rattle.c_tree.specs.Stating.{Surroundings, type_marks, type_compound}
 use Rattle.c_tree.specs.Units.{specs_place, variable_of, with_variables, numbers_from, begun_function, ended_function, type_external, type_externals, start, type_line, any_main, type_unit, bodies, typed_unit, complaints}
 use Rattle.c_sites_probes.specs.Marked.{first, mark_among, specs_mark, declarator_mark, compound_mark, external_mark, externals_mark, line_mark, unit_mark}
 use Rattle.probe_rules.proofs.ReadyUnits.{none_first, none_second}
-use Rattle.probe_rules.proofs.Grows.{rule_grows, demand_grows}
-use Rattle.probe_rules.proofs.GrowsUnits.{function_grows, variables_grow, marks_grow, compound_grows, externals_grow}
+use Rattle.c_tree.proofs.Grows.{rule_grows, demand_grows}
+use Rattle.c_tree.proofs.GrowsUnits.{function_grows, variables_grow, marks_grow, compound_grows, externals_grow}
 use Rattle.probe_laws.proofs.Settled.{IsThere, IsClean, type_there}
 use Rattle.probe_laws.proofs.Rules.{back}
 use Rattle.probe_laws.proofs.Known.{Holds, Knows, Goes, declared_holds, entered_holds, left_holds, holds_more, stays, ◌▹◌, rule_goes, demand_goes}

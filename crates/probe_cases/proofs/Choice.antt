@@ -23,8 +23,8 @@ use Rattle.c_walk.specs.Walked.{Walked, next_decision, with_decision, pos_of, in
 use Rattle.probe_rules.specs.Marks.{in_select}
 use Rattle.probe_rules.specs.ProbedExpressions.{probed_node, probed_choice}
 use Rattle.probe_rules.proofs.Claims.{seen_at, test_claimed}
-use Rattle.probe_rules.proofs.Grows.{rule_grows, node_grows}
-use Rattle.probe_rules.proofs.GrowsUnits.{items_grow}
+use Rattle.c_tree.proofs.Grows.{rule_grows, node_grows}
+use Rattle.c_tree.proofs.GrowsUnits.{items_grow}
 use Rattle.probe_rules.proofs.Moved.{Alike, sided_alike}
 use Rattle.probe_laws.proofs.Settled.{IsClean}
 use Rattle.probe_laws.proofs.Rules.{back}

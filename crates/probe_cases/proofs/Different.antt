@@ -21,8 +21,8 @@ use Rattle.c_tree.specs.Typing.{type_node}
 use Rattle.c_tree.specs.Stating.{Surroundings, Labels, comes_twice, as_kind, case_state, default_state, case_labels, default_labels, TypedLabels, type_labels, type_stmt, type_items}
 use Rattle.c_walk.specs.Tests as tests
 use Rattle.c_walk.specs.Tests.{case_value, label_values, case_values}
-use Rattle.probe_rules.proofs.Grows.{rule_grows}
-use Rattle.probe_rules.proofs.GrowsUnits.{case_grows, labels_grow, stmt_grows, items_grow}
+use Rattle.c_tree.proofs.Grows.{rule_grows}
+use Rattle.c_tree.proofs.GrowsUnits.{case_grows, labels_grow, stmt_grows, items_grow}
 use Rattle.probe_rules.proofs.ReadyUnits.{none_first, none_second}
 use Rattle.probe_laws.proofs.Settled.{IsThere, IsClean, mended}
 use Rattle.probe_laws.proofs.Rules.{back}

@@ -12,7 +12,7 @@ use Rattle.c_tree.specs.Rulings.{by, rule}
 use Rattle.c_tree.specs.Sorts.{pos_in, note_of, cleared}
 use Rattle.c_tree.specs.Operators.{called, hushed, heard, unary_rule, place_rule, choice_rule, entering, left_of, right_of, sided}
 use Rattle.c_tree.specs.Typing.{opening, type_node, type_form, type_arguments, type_type}
-use Rattle.probe_rules.proofs.Grows.{◌▸◌, rule_grows, infix_grows, node_grows, form_grows}
+use Rattle.c_tree.proofs.Grows.{◌▸◌, rule_grows, infix_grows, node_grows, form_grows}
 use Rattle.probe_rules.proofs.ReadyUnits.{some_none, none_first, none_second}
 use Rattle.probe_laws.proofs.Settled.{IsClean}
 use Rattle.probe_laws.proofs.Rules.{back}

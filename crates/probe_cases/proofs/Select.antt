@@ -25,8 +25,8 @@ use Rattle.c_sites_probes.specs.Marked.{node_mark, items_mark, body_mark}
 use Rattle.c_walk.specs.Tests.{choosing, case_values}
 use Rattle.c_walk.specs.Walked.{next_decision}
 use Rattle.probe_rules.specs.Marks.{value_note, constants_at}
-use Rattle.probe_rules.proofs.Grows.{rule_grows}
-use Rattle.probe_rules.proofs.GrowsUnits.{items_grow}
+use Rattle.c_tree.proofs.Grows.{rule_grows}
+use Rattle.c_tree.proofs.GrowsUnits.{items_grow}
 use Rattle.probe_rules.proofs.ReadyUnits.{none_second}
 use Rattle.probe_rules.proofs.SelectConstants.{AreCases, items_are_cases}
 use Rattle.probe_laws.proofs.Settled.{IsThere, IsClean, mended}

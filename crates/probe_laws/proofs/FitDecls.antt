@@ -28,8 +28,8 @@ use Rattle.c_sites_probes.specs.Marked.{first, name_mark, lengths_mark, specs_ma
 use Rattle.probe_rules.specs.Fitting.{IsNamed, IsFitInit, IsFitVariable, IsFitDeclarator, AreFitDeclarators, IsFitDecl, AreFitDecls, IsDefined, AreDefined, IsDefining, AreDefining, AreFitParams}
 use Rattle.c_walk.specs.declared.around.Taken.TheVariants.{Read}
 use Rattle.probe_rules.proofs.ReadyUnits.{none_first, none_second}
-use Rattle.probe_rules.proofs.Grows.{rule_grows, lengths_grow}
-use Rattle.probe_rules.proofs.GrowsUnits.{name_grows, inits_grow, maybe_init_grows, variable_at_grows, parameter_grows, name_demand_grows, list_grows, declared_grows, closed_params_grows, declarators_grow, decls_grow}
+use Rattle.c_tree.proofs.Grows.{rule_grows, lengths_grow}
+use Rattle.c_tree.proofs.GrowsUnits.{name_grows, inits_grow, maybe_init_grows, variable_at_grows, parameter_grows, name_demand_grows, list_grows, declared_grows, closed_params_grows, declarators_grow, decls_grow}
 use Rattle.probe_laws.proofs.Settled.{IsThere, IsClean, Settled, then_settled, mended, type_there, by_told, of_kind_settled, whole_settled, parameter_told, result_told}
 use Rattle.probe_laws.proofs.Rules.{back}
 use Rattle.probe_laws.proofs.Known.{IsRow, IsSure, Knows, Goes, declared_holds, entered_holds, left_holds, stays, ◌▹◌, rule_goes, demand_goes, mention_goes}

@@ -32,7 +32,7 @@ use Rattle.c_walk.specs.Walked.{operand_taken, left_taken, right_taken}
 use Rattle.c_sites_probes.specs.Marked.{first, node_mark, form_mark, nodes_mark, type_mark}
 use Rattle.probe_rules.specs.Fitting.{MayBe, IsName, IsFit, AreFit}
 use Rattle.probe_rules.proofs.ReadyUnits.{some_none, none_first, none_second}
-use Rattle.probe_rules.proofs.Grows.{rule_grows, typed_call_grows, infix_grows, node_grows, form_grows, arguments_grows}
+use Rattle.c_tree.proofs.Grows.{rule_grows, typed_call_grows, infix_grows, node_grows, form_grows, arguments_grows}
 use Rattle.probe_laws.proofs.Settled.{IsThere, IsClean, mended}
 use Rattle.probe_laws.proofs.Rules.{back, changeable_there, step_there, left_there, infix_there}
 use Rattle.probe_laws.proofs.Known.{MaybeSure, Knows, find_sure}

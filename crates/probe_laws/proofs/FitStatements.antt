@@ -18,8 +18,8 @@ use Rattle.c_sites_probes.specs.Marked.{first, mark_among, node_mark, maybe_mark
 use Rattle.c_walk.specs.declared.around.Taken.TheVariants.{Read}
 use Rattle.probe_rules.specs.Fitting.{IsFit, IsFitMaybe, AreFitLabels, IsFitStmt, IsFitBody, IsFitCompound, AreFitItems}
 use Rattle.probe_rules.proofs.ReadyUnits.{none_first, none_second}
-use Rattle.probe_rules.proofs.Grows.{rule_grows}
-use Rattle.probe_rules.proofs.GrowsUnits.{maybe_grows, test_grows, maybe_test_grows, case_grows, labels_grow, stmt_grows, items_grow}
+use Rattle.c_tree.proofs.Grows.{rule_grows}
+use Rattle.c_tree.proofs.GrowsUnits.{maybe_grows, test_grows, maybe_test_grows, case_grows, labels_grow, stmt_grows, items_grow}
 use Rattle.probe_laws.proofs.Settled.{IsClean}
 use Rattle.probe_laws.proofs.Rules.{back}
 use Rattle.probe_laws.proofs.Known.{Knows, Goes, entered_holds, left_holds, stays, ◌▹◌, rule_goes, demand_goes}

@@ -19,7 +19,7 @@ use Rattle.c_tree.specs.Rulings.{by}
 use Rattle.c_tree.specs.Parts.{Length, left_out, length_of, length_rule, pointed, star_tokens, arrays_of, Spelled, unspelled, with_word, with_tagged, static_fits, spelled_rule, begun_at, opened, tag_tokens, structure_kind, within, is_free, with_field, field_state, entity_of, declare, after, enumeration, passes, value_rule}
 use Rattle.c_tables.specs.Rows.{text_of, name_pos}
 use Rattle.c_tree.specs.Typing.{opening, type_node, type_form, type_arguments, type_cases, type_type, type_lengths, type_specs, type_struct, type_lines, type_fields, type_enum, rows_types, type_value}
-use Rattle.probe_rules.proofs.Grows.{rule_grows, typed_call_grows, infix_grows, opened_grows, begun_grows, closed_grows, field_grows, declared_grows, enumeration_grows, node_grows, form_grows, arguments_grows, cases_grow, lengths_grow, specs_grow, lines_grow, fields_grow, rows_grow}
+use Rattle.c_tree.proofs.Grows.{rule_grows, typed_call_grows, infix_grows, opened_grows, begun_grows, closed_grows, field_grows, declared_grows, enumeration_grows, node_grows, form_grows, arguments_grows, cases_grow, lengths_grow, specs_grow, lines_grow, fields_grow, rows_grow}
 use Rattle.probe_laws.proofs.Settled.{IsThere, IsClean, type_there, whole_settled}
 use Rattle.probe_laws.proofs.Rules as rules
 use Rattle.probe_laws.proofs.Rules.{back, unary_there, step_there, size_there, type_size_there, cast_there, infix_there, choice_there, element_there, field_there, probe_there, select_there}

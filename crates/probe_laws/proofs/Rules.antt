@@ -16,7 +16,7 @@ use Rattle.c_tree.specs.State.{State, step, demand, field_type, fields_of}
 use Rattle.c_tree.specs.Rulings.{Ruled, allowed, unsettled, refused, by, then_rule, kind_at, rule, of_kind, allowed_if, whole, object, moved, sized, as_size, comma_kind}
 use Rattle.c_tree.specs.Sorts.{Sort, null, changeable}
 use Rattle.c_tree.specs.Operators.{number_sort, has_value, unary_rule, unary_sort, place_rule, step_rule, plain_rule, left_side, assigned_rule, typed_infix, choice_rule, element_rule, holder, field_rule, found_field, is_copied, probe_rule, probe_sort, as_decayed, select_cases, differ, select_rule}
-use Rattle.probe_rules.proofs.Grows.{rule_grows}
+use Rattle.c_tree.proofs.Grows.{rule_grows}
 use Rattle.probe_laws.proofs.Settled.{IsThere, IsClean, Settled, mended, type_there, by_told, then_settled, of_kind_settled, if_settled, whole_settled, object_settled, moved_settled, binary_told, test_told, logical_told, conditional_told, assigned_told, compound_told, step_told, promoted_told, target_told, element_told, address_told, cast_told, probed_told, IsStructure, dot_held, arrow_held, structure_there}
 
 -- nothing was complained of before

@@ -32,7 +32,7 @@ use Rattle.probe_rules.proofs.ReadyUnits.{none_first, none_second}
 use Rattle.probe_rules.proofs.Few.{few_before}
 use Rattle.probe_parsed.proofs.Woven.{Origin, old, put, all_kinds, old_kinds, IsPut, ArePut, Woven}
 use Rattle.probe_parsed.proofs.WovenUnits.{param_list_woven}
-use Rattle.probe_parsed.proofs.BareForms.{param_list_same}
+use Rattle.c_tree.proofs.BareForms.{param_list_same}
 use Rattle.probe_parsed.proofs.Firm.{node_firm, tested_firm, right_firm, maybe_firm, maybe_test_firm, step_firm, choice_firm}
 
 -- ---- names

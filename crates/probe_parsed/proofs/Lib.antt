@@ -2,7 +2,6 @@ pub mod Woven
 pub mod WovenNodes
 pub mod WovenUnits
 pub mod Readable
-pub mod BareForms
 pub mod Firm
 pub mod FirmUnits
 pub mod Parsed

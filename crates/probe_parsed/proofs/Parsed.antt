@@ -14,7 +14,7 @@ use Rattle.probe_rules.specs.Instrumented.{instrumented}
 use Rattle.c_placing.specs.Placing.{at_unit}
 use Rattle.probe_parsed.specs.Parsed.{IsParsed, IsWritable}
 use Rattle.probe_parsed.proofs.Readable.{instrumented_is_readable}
-use Rattle.probe_parsed.proofs.BareForms.{tokens_same}
+use Rattle.c_tree.proofs.BareForms.{tokens_same}
 use Rattle.probe_parsed.proofs.FirmUnits.{instrumented_is_shaped}
 use Rattle.c_placing.proofs.Placing.{unit_is_placed}
 use Rattle.c_placing.proofs.PlacedShaped.{placed_is_shaped}

@@ -19,7 +19,8 @@ use Rattle.probe_rules.specs.Instrumented.{probed_externals, instrumented}
 use Rattle.probe_rules.specs.Fitting.{HasFewItems}
 use Rattle.probe_rules.specs.Simulation.{IsPlain, all_walked}
 use Rattle.probe_rules.proofs.ReadyUnits.{some_none, none_first, none_second}
-use Rattle.probe_parsed.specs.Readable.{AreLexed, AreWithin}
+use Rattle.c_tree.specs.Lexed.{AreLexed}
+use Rattle.probe_parsed.specs.Readable.{AreWithin}
 use Rattle.probe_parsed.proofs.Woven.{woven_lexed, plain_first}
 use Rattle.probe_parsed.proofs.WovenUnits.{externals_woven}
 

@@ -18,7 +18,7 @@ use Rattle.c_lex.specs.Joined.{string_of}
 use Rattle.c_lex.specs.Output.{is_left_out}
 use Rattle.c_lex.specs.ReadBack.{AreTokens, spellings, is_string_pair, are_apart}
 use Rattle.probe_rules.proofs.ReadNumbers.{value_same, run_all}
-use Rattle.probe_parsed.specs.Readable.{AreLexed}
+use Rattle.c_tree.specs.Lexed.{AreLexed}
 
 -- ---- where a token comes from
 

@@ -16,7 +16,8 @@ use Rattle.c_meaning.specs.Calls.{Source}
 use Rattle.probe_rules.specs.Instrumented.{instrumented}
 use Rattle.probe_rules.specs.Fitting.{HasFewItems}
 use Rattle.probe_rules.specs.Simulation.{IsPlain, all_walked}
-use Rattle.probe_parsed.specs.Readable.{AreLexed, AreWithin}
+use Rattle.c_tree.specs.Lexed.{AreLexed}
+use Rattle.probe_parsed.specs.Readable.{AreWithin}
 use Rattle.c_placing.specs.Unplaced.{EqualButForPlaces}
 
 -- the text gives tokens, which are this unit's, one that the grammar allows

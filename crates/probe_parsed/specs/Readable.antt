@@ -1,6 +1,5 @@
 -- The tokens of a program with its probes are tokens that a text can give, where those of the program are.
-use Rattle.std.specs.Prelude.{◌≡◌, ◌≤◌, List, length, true, false}
-use Rattle.std.specs.List.{list_any}
+use Rattle.std.specs.Prelude.{◌≡◌, ◌≤◌, List, length}
 use Rattle.c_syntax.specs.declared.text.Text.{Text}
 use Rattle.c_syntax.specs.declared.token.TokenKind.{TokenKind}
 use Rattle.c_syntax.specs.Grammar.{tokens_of}
@@ -9,20 +8,14 @@ use Rattle.c_syntax.specs.Shaped.{ShapedUnit}
 use Rattle.c_lex_pieces.specs.Written.{AreBytes}
 use Rattle.c_lex.specs.declared.lexer.TextKind.TheVariants.{Probed}
 use Rattle.c_lex.specs.Macros.{bytes_of}
-use Rattle.c_lex.specs.Output.{is_left_out}
 use Rattle.c_lex.specs.Given.{room_of}
-use Rattle.c_lex.specs.ReadBack.{AreTokens, AreReadable, spellings, are_apart}
+use Rattle.c_lex.specs.ReadBack.{AreReadable, spellings}
+use Rattle.c_tree.specs.Lexed.{AreLexed}
 use Rattle.c_tree.specs.Unnoted.{bare_unit}
 use Rattle.c_meaning.specs.Calls.{Source}
 use Rattle.probe_rules.specs.Instrumented.{instrumented}
 use Rattle.probe_rules.specs.Fitting.{HasFewItems}
 use Rattle.probe_rules.specs.Simulation.{IsPlain, all_walked}
-
--- each is one that a piece can spell, no word is left out, and no two strings are adjacent
-pub record AreLexed (ks : List TokenKind) : Type 0 where
-  pub tokens : AreTokens ks
-  pub kept : list_any is_left_out (spellings ks) ≡ false
-  pub apart : are_apart ks ≡ true
 
 -- so many tokens and bytes a text with probes may have
 pub record AreWithin (ks : List TokenKind) : Type 0 where

@@ -13,7 +13,7 @@ pub fn tokens_are_readable()
 {}
 
 /// The grammar allows a program with its probes, and it is written alike without its notes.
-#[tactic(auto, using(crate::proofs::FirmUnits::instrumented_is_shaped, crate::proofs::BareForms::tokens_same))]
+#[tactic(auto, using(crate::proofs::FirmUnits::instrumented_is_shaped, c_tree::proofs::BareForms::tokens_same))]
 pub fn units_are_shaped()
     ensures shaped { InstrumentedIsShaped }
     ensures bare { WrittenBare }

@@ -20,8 +20,8 @@ use Rattle.c_tree.specs.Parts.{TypedLengths, pointed, star_tokens}
 use Rattle.c_tree.specs.Typing.{type_node, type_lengths}
 use Rattle.c_tree.specs.Initialisers.{lengths_with, TypedInit, chars_of, filled, form_in, string_init, constant_init, fits, value_init, one_init_of, Slots, slots_in, slots, list_rule, slot, slot_rule, further, init_pos, TypedInits, one_item, list_end, type_init, type_inits}
 use Rattle.c_tree.specs.Declaring.{name_tokens, claim_mark, claim_name, token_of_name, with_variable, variable_at, declare_variable, variable_rule, has_init, TypedMaybeInit, an_init, type_maybe_init, TypedDeclarator, type_variable}
-use Rattle.probe_rules.proofs.Grows.{◌▸◌, rule_grows}
-use Rattle.probe_rules.proofs.GrowsUnits.{inits_grow, maybe_init_grows, variable_at_grows}
+use Rattle.c_tree.proofs.Grows.{◌▸◌, rule_grows}
+use Rattle.c_tree.proofs.GrowsUnits.{inits_grow, maybe_init_grows, variable_at_grows}
 use Rattle.probe_passes.specs.Passes.{first_pass}
 use Rattle.probe_passes.proofs.Rules.{IsClean, ruled, demanded, number_taken}
 use Rattle.probe_passes.proofs.Nodes.{first_typed, node_typed, lengths_typed}

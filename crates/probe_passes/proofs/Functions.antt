@@ -16,8 +16,8 @@ use Rattle.c_tree.specs.Rulings.{by, rule, kind_at}
 use Rattle.c_tree.specs.Parts.{TypedLengths, pointed, star_tokens, spelled_rule, unspelled, TypedSpecs}
 use Rattle.c_tree.specs.Typing.{type_lengths, type_specs}
 use Rattle.c_tree.specs.Declaring.{name_tokens, claim_name, token_of_name, TypedParam, TypedParams, with_parameter, parameter_at, declare_parameter, parameter_rule, name_demand, type_param, one_param, type_param_list, listed_params, type_params, TypedSignature, opened_scope, all_kinds, Signature, signature_of, function_entity, same_function, names_function, is_defined, function_at, unclear_at, bodied, mentioned, declare_function, TypedFunction, closed_params, type_function, plain_declarator, type_declarator, TypedDeclarators, type_declarators, none_declared, semicolon, TypedDecl, type_decl, TypedDeclList, type_decls}
-use Rattle.probe_rules.proofs.Grows.{◌▸◌, rule_grows, lengths_grow}
-use Rattle.probe_rules.proofs.GrowsUnits.{name_grows, parameter_grows, name_demand_grows, list_grows, declared_grows, closed_params_grows, declarators_grow, decls_grow}
+use Rattle.c_tree.proofs.Grows.{◌▸◌, rule_grows, lengths_grow}
+use Rattle.c_tree.proofs.GrowsUnits.{name_grows, parameter_grows, name_demand_grows, list_grows, declared_grows, closed_params_grows, declarators_grow, decls_grow}
 use Rattle.probe_passes.specs.Passes.{first_pass}
 use Rattle.probe_passes.proofs.Rules.{IsClean, first_numbered, ruled, demanded, mentioned as function_mentioned}
 use Rattle.probe_passes.proofs.Nodes.{first_spelled, lengths_typed, specs_typed}

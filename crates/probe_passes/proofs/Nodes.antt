@@ -21,7 +21,7 @@ use Rattle.c_tree.specs.Sorts.{Formed, formed, TypedNode, TypedType, noted, pos_
 use Rattle.c_tree.specs.Operators.{Called, Given, given_at, claim, called, typed_call, typed_paren, typed_unary, typed_step, heard, hushed, typed_size, typed_type_size, typed_cast, typed_index, typed_field, typed_infix, typed_choice, typed_probe, typed_select, constant_rule, place_rule, unary_rule, step_rule, choice_rule, element_rule, holder, field_rule, probe_rule, select_rule, left_of, right_of, sided, entering}
 use Rattle.c_tree.specs.Parts.{Length, length_of, left_out, length_rule, judged_length, TypedNodes, one_more, TypedCases, one_case, judged_constant, TypedLengths, open_length, one_length, pointed, star_tokens, arrays_of, Spelled, unspelled, with_word, with_tagged, static_fits, spelled_rule, more_spec, TypedSpecs, TypedSpec, Opened, opened, known_structure, listed_structure, begun_at, tag_tokens, closed, structure_kind, kind_if, within, outside, TypedDecls, TypedNames, is_free, with_field, field_state, TypedRows, Valued, value_rule, passes, only_int, entity_of, declared_at, declare, after, known_enumeration, listed_enumeration, enumeration}
 use Rattle.c_tree.specs.Typing.{opening, type_node, type_form, type_arguments, type_cases, type_type, type_lengths, type_specs, type_struct, type_lines, type_fields, type_enum, rows_types, type_value}
-use Rattle.probe_rules.proofs.Grows.{◌▸◌, rule_grows, typed_call_grows, infix_grows, closed_grows, field_grows, declared_grows, node_grows, arguments_grows, cases_grow, lengths_grow, specs_grow, lines_grow, fields_grow, rows_grow}
+use Rattle.c_tree.proofs.Grows.{◌▸◌, rule_grows, typed_call_grows, infix_grows, closed_grows, field_grows, declared_grows, node_grows, arguments_grows, cases_grow, lengths_grow, specs_grow, lines_grow, fields_grow, rows_grow}
 use Rattle.probe_passes.specs.Passes.{first_pass}
 use Rattle.probe_passes.proofs.Rules.{IsClean, ruled, demanded, numbered, stringed, name_typed, name_called, call_typed, unary_typed, step_typed, size_typed, type_size_typed, cast_typed, infix_typed, choice_typed, index_typed, field_typed, number_taken, probe_typed, select_typed}
 

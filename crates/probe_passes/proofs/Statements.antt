@@ -14,8 +14,8 @@ use Rattle.c_tree.specs.Parts.{judged_constant}
 use Rattle.c_tree.specs.Typing.{type_node}
 use Rattle.c_tree.specs.Declaring.{opened_scope, closed_scope, type_decls}
 use Rattle.c_tree.specs.Stating.{Surroundings, in_loop, in_switch, Labels, no_labels, tested, switched, TypedMaybe, a_maybe, type_maybe, type_test, result_rule, type_result, type_marks, TypedLabels, comes_twice, as_kind, case_state, default_state, case_labels, default_labels, one_label, type_labels, TypedStmt, TypedBody, TypedCompound, TypedItems, type_stmt, type_body, type_compound, type_items}
-use Rattle.probe_rules.proofs.Grows.{◌▸◌, rule_grows}
-use Rattle.probe_rules.proofs.GrowsUnits.{maybe_grows, test_grows, maybe_test_grows, case_grows, labels_grow, stmt_grows, items_grow}
+use Rattle.c_tree.proofs.Grows.{◌▸◌, rule_grows}
+use Rattle.c_tree.proofs.GrowsUnits.{maybe_grows, test_grows, maybe_test_grows, case_grows, labels_grow, stmt_grows, items_grow}
 use Rattle.probe_passes.specs.Passes.{first_pass}
 use Rattle.probe_passes.proofs.Rules.{IsClean, ruled, demanded, number_taken}
 use Rattle.probe_passes.proofs.Nodes.{first_typed, node_typed}

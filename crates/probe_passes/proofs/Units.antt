@@ -18,8 +18,8 @@ use Rattle.c_tree.specs.Typing.{type_specs}
 use Rattle.c_tree.specs.Declaring.{TypedFunction, type_function}
 use Rattle.c_tree.specs.Stating.{Surroundings, type_marks, type_compound}
 use Rattle.c_tree.specs.Units.{start, variable_of, with_variables, begun_function, ended_function, TypedExternal, type_definition, specs_place, type_external, TypedExternals, type_externals, type_line, any_main, TypedUnit, type_unit}
-use Rattle.probe_rules.proofs.Grows.{Grows, ◌▸◌, demand_grows, rule_grows}
-use Rattle.probe_rules.proofs.GrowsUnits.{function_grows, marks_grow, compound_grows, variables_grow, externals_grow}
+use Rattle.c_tree.proofs.Grows.{Grows, ◌▸◌, demand_grows, rule_grows}
+use Rattle.c_tree.proofs.GrowsUnits.{function_grows, marks_grow, compound_grows, variables_grow, externals_grow}
 use Rattle.probe_passes.specs.Passes.{first_pass, PassesAgree}
 use Rattle.probe_passes.proofs.Rules.{IsClean, ruled, demanded}
 use Rattle.probe_passes.proofs.Nodes.{specs_typed}

@@ -12,7 +12,7 @@ use Rattle.c_tree.specs.Unnoted.{bare_unit}
 use Rattle.c_front.specs.Front.{IsRead, program}
 use Rattle.c_meaning.specs.Calls.{Source}
 use Rattle.c_placing.specs.Unplaced.{EqualButForPlaces}
-use Rattle.probe_parsed.specs.Readable.{AreLexed}
+use Rattle.c_tree.specs.Lexed.{AreLexed}
 use Rattle.probe_rules.specs.Instrumented.{instrumented}
 use Rattle.probe_rules.specs.Fitting.{HasFewItems}
 use Rattle.probe_rules.specs.Simulation.{IsPlain, all_walked}

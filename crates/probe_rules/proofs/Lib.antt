@@ -7,8 +7,6 @@ pub mod ErasedUnits
 pub mod OwnPlain
 pub mod OwnProbed
 pub mod OwnUnits
-pub mod Grows
-pub mod GrowsUnits
 pub mod Moved
 pub mod Claims
 pub mod Told

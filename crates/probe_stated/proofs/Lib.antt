@@ -1,5 +1,4 @@
 mod Labels
-pub mod Again
 mod Locals
 mod Statements
 pub mod Bodies

@@ -22,7 +22,7 @@ use Rattle.c_tree.specs.Typing.{type_node, type_specs, type_lengths}
 use Rattle.c_tree.specs.Initialisers.{length_in, length_in_form, lengths_with, form_in, filled, chars_of, one_init_of, constant_init, fits, TypedInit, type_init}
 use Rattle.c_tree.specs.Declaring.{name_tokens, claim_name, token_of_name, declare_variable, variable_rule, has_init, type_maybe_init, TypedDeclarator, type_variable, type_declarator, TypedDeclarators, type_declarators, none_declared, semicolon, type_decl, TypedDecl, type_decls, plain_declarator}
 use Rattle.c_tree.proofs.Again.{lengths_again, specs_again}
-use Rattle.c_tree.proofs.AgainUnits.{length_again, init_again}
+use Rattle.c_tree.proofs.AgainUnits.{length_again, init_again, function_again}
 use Rattle.c_walk.specs.declared.around.Around.{Around}
 use Rattle.c_walk.specs.declared.around.Taken.TheVariants.{Read}
 use Rattle.c_walk.specs.Walked.{Walked}
@@ -37,8 +37,8 @@ use Rattle.c_walk.specs.Counted.{next_def}
 use Rattle.probe_rules.specs.ProbedExpressions.{probed_node}
 use Rattle.probe_rules.specs.ProbedStatements.{probed_declarator, probed_declarators, probed_decl}
 use Rattle.probe_rules.proofs.ReadyUnits.{none_first, none_second}
-use Rattle.probe_rules.proofs.Grows.{rule_grows}
-use Rattle.probe_rules.proofs.GrowsUnits.{maybe_init_grows, variable_at_grows, declarators_grow, decls_grow}
+use Rattle.c_tree.proofs.Grows.{rule_grows}
+use Rattle.c_tree.proofs.GrowsUnits.{maybe_init_grows, variable_at_grows, declarators_grow, decls_grow}
 use Rattle.probe_rules.proofs.Moved.{AlikeSpecs, steps_alike, rule_alike, ruled_alike, quiet_alike, specs_alike}
 use Rattle.probe_rules.proofs.Claims.{seen_at, def_claimed}
 use Rattle.probe_rules.proofs.Few.{few_before, few_defs}
@@ -55,7 +55,6 @@ use Rattle.probe_moved.proofs.Marked.{variable_lengths, variable_kind, variable_
 use Rattle.probe_typed.specs.Typed.{Follows}
 use Rattle.probe_typed.proofs.Parts.{nodes_typed}
 use Rattle.probe_stated.specs.Stated.{DeclsAreTypedAs}
-use Rattle.probe_stated.proofs.Again.{function_again}
 
 three : {A B C D : Type 0} (k : A → B → C → D) {a b : A} {c d : B} {e f : C} → a ≡ b → c ≡ d → e ≡ f → k a c e ≡ k b d f
 three k {a} {b} {c} {d} {e} {f} p q r = ap (λ x. k x c e) p ∙ ap₂ (k b) q r

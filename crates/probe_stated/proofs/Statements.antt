@@ -26,8 +26,8 @@ use Rattle.probe_rules.specs.Marks.{block_marks}
 use Rattle.probe_rules.specs.ProbedExpressions.{probed_test, probed_loop_test, probed_maybe, probed_maybe_test, probed_step, probed_choice}
 use Rattle.probe_rules.specs.ProbedStatements.{probed_decls, probed_stmt, probed_body, probed_compound, probed_items}
 use Rattle.probe_rules.proofs.ReadyUnits.{none_first, none_second}
-use Rattle.probe_rules.proofs.Grows.{rule_grows}
-use Rattle.probe_rules.proofs.GrowsUnits.{maybe_grows, test_grows, maybe_test_grows, stmt_grows, items_grow}
+use Rattle.c_tree.proofs.Grows.{rule_grows}
+use Rattle.c_tree.proofs.GrowsUnits.{maybe_grows, test_grows, maybe_test_grows, stmt_grows, items_grow}
 use Rattle.probe_rules.proofs.Moved.{steps_alike, demand_alike}
 use Rattle.probe_rules.proofs.Claims.{seen_at, block_claimed}
 use Rattle.probe_rules.proofs.Few.{few_before, few_blocks, few_decisions}
@@ -43,7 +43,8 @@ use Rattle.probe_cases.proofs.Choice as choices
 use Rattle.probe_typed.specs.Typed.{Follows, MayBeTested, IsTypedNear}
 use Rattle.probe_typed.proofs.Parts.{tests_typed, loop_tests_typed, maybes_typed, maybe_tests_typed, steps_typed, results_typed, judged_alike, tested_so, reads_typed}
 use Rattle.probe_stated.specs.Stated.{IsStmtTypedAs, IsCompoundTypedAs, DeclsAreTypedAs}
-use Rattle.probe_stated.proofs.Labels.{labels_again, labels_go}
+use Rattle.c_tree.proofs.AgainUnits.{labels_again}
+use Rattle.probe_stated.proofs.Labels.{labels_go}
 use Rattle.c_tree.specs.declared.meaning.Side.TheVariants.{Neither}
 
 three : {A B C D : Type 0} (k : A → B → C → D) {a b : A} {c d : B} {e f : C} → a ≡ b → c ≡ d → e ≡ f → k a c e ≡ k b d f

@@ -12,7 +12,7 @@ use Rattle.c_walk.specs.declared.around.Taken.TheVariants.{Read}
 use Rattle.c_walk.specs.Walking.{walk_node, walk_loop_test}
 use Rattle.c_sites_probes.specs.Marked.{node_mark}
 use Rattle.probe_rules.specs.ProbedExpressions.{probed_node, probed_loop_test}
-use Rattle.probe_rules.proofs.Grows.{rule_grows, node_grows}
+use Rattle.c_tree.proofs.Grows.{rule_grows, node_grows}
 use Rattle.probe_rules.proofs.Moved.{rule_alike}
 use Rattle.probe_rules.proofs.Claims.{seen_at}
 use Rattle.probe_laws.proofs.Settled.{IsThere, IsClean, type_there, by_told, test_told}

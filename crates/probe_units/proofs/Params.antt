@@ -30,7 +30,7 @@ use Rattle.probe_moved.specs.Moved.{marked, behind_stars}
 use Rattle.probe_moved.proofs.States.{file_same, claim_name_alike, no_params_alike, opened_scope_alike, closed_params_alike, judged_function_alike}
 use Rattle.probe_moved.proofs.Marked.{param_marked}
 use Rattle.probe_typed.specs.Typed.{Follows}
-use Rattle.probe_stated.proofs.Again.{function_again}
+use Rattle.c_tree.proofs.AgainUnits.{function_again}
 use Rattle.probe_units.specs.Units.{at_params, IsFunctionDefinedAs, FunctionsAreDefinedAs}
 
 -- ---- a parameter is one variable

@@ -29,8 +29,8 @@ use Rattle.probe_rules.specs.Marks.{mark_at}
 use Rattle.probe_rules.specs.ProbedStatements.{probed_compound}
 use Rattle.probe_rules.specs.Instrumented.{defined_params, probed_external, probed_externals, instrumented_unit}
 use Rattle.probe_rules.proofs.ReadyUnits.{some_none, none_first, none_second}
-use Rattle.probe_rules.proofs.Grows.{rule_grows, demand_grows}
-use Rattle.probe_rules.proofs.GrowsUnits.{function_grows, variables_grow, compound_grows, externals_grow}
+use Rattle.c_tree.proofs.Grows.{rule_grows, demand_grows}
+use Rattle.c_tree.proofs.GrowsUnits.{function_grows, variables_grow, compound_grows, externals_grow}
 use Rattle.probe_rules.proofs.Moved.{AlikeSpecs, specs_alike}
 use Rattle.probe_rules.proofs.Claims.{seen_at, block_claimed}
 use Rattle.probe_rules.proofs.Few.{few_before, few_blocks}

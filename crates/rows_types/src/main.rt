@@ -3,15 +3,10 @@
 //! a text with probes.
 #![tactic(auto)]
 
-ghost use Rattle.c_syntax.specs.View.{unit_shape};
-ghost use Rattle.c_tree.specs.Programs.{IsSound};
-
 use c_base::place::Pos;
-use c_lex::{LexRefusal, TextKind, lex};
-use c_parse::{ParseRefusal, parse};
-use c_syntax::tree::Unit;
+use c_front::{FrontRefusal, read};
+use c_lex::TextKind;
 use c_tree::program::Program;
-use c_types::{TypeRefusal, check};
 use std::alloc::{AllocError, Global};
 use std::io;
 
@@ -46,34 +41,16 @@ fn accepted(alloc: Global, program: &Program) -> Result<String, AllocError> {
     )
 }
 
-fn checked(alloc: Global, unit: Unit) -> Result<String, AllocError>
-    requires { IsSound (unit_shape unit) }
-{
-    match check(alloc, unit) {
-        Ok(program) => accepted(alloc, &program),
-        Err(TypeRefusal::At(number, pos)) => refused(alloc, number, pos),
-        Err(TypeRefusal::NoMemory) => format!(in alloc; "no memory"),
-    }
-}
-
 // What a row prints.
 fn answer(alloc: Global, row: &str) -> Result<String, AllocError> {
     let (text, kind) = text_of_row(alloc, row)?;
     if text.len() > 1048576 {
         return format!(in alloc; "too long");
     }
-    let tokens = match lex(alloc, text.as_slice(), kind) {
-        Ok(tokens) => tokens,
-        Err(LexRefusal::At(number, pos)) => return refused(alloc, number, pos),
-        Err(LexRefusal::NoMemory) => return format!(in alloc; "no memory"),
-    };
-    if tokens.len() > 350000 {
-        return format!(in alloc; "too many tokens");
-    }
-    match parse(alloc, tokens.as_slice()) {
-        Ok(unit) => checked(alloc, unit),
-        Err(ParseRefusal::Syntax(pos)) => refused(alloc, 20, pos),
-        Err(ParseRefusal::NoMemory) => format!(in alloc; "no memory"),
+    match read(alloc, text.as_slice(), kind) {
+        Ok(program) => accepted(alloc, &program),
+        Err(FrontRefusal::At(number, pos)) => refused(alloc, number, pos),
+        Err(FrontRefusal::NoMemory) => format!(in alloc; "no memory"),
     }
 }
 

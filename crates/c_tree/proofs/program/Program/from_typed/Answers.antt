@@ -1,7 +1,5 @@
-use Rattle.std.proofs.Math.Logic.{∥∥₁_map}
-use Rattle.c_tree.specs.Programs.{HoldsProgram, itself}
 use Rattle.c_tree.proofs.program.Program.from_typed.Goals as goal
 
--- src/program.rt:24:5
+-- src/program.rt:23:5
 pub invariant_of-result : goal.invariant_of-result
-invariant_of-result c = record { typed = ∥∥₁_map c.requires itself }
+invariant_of-result c = record { typed = c.requires }

@@ -22,7 +22,7 @@ use Rattle.c_tree.specs.Initialisers.{lengths_with, form_in, chars_of, filled, c
 use Rattle.c_tree.specs.Declaring.{name_tokens, claim_mark, claim_name, token_of_name, with_variable, variable_at, declare_variable, variable_rule, has_init, type_maybe_init, type_variable, parameter_at, with_parameter, declare_parameter, parameter_rule, name_demand, type_param, type_param_list, type_params, opened_scope, closed_params, all_kinds, signature_of, Signature, function_at, unclear_at, bodied, function_entity, declare_function, type_function, type_declarator, type_declarators, none_declared, semicolon, type_decl, type_decls}
 use Rattle.c_tree.specs.Stating.{Surroundings, in_loop, in_switch, Labels, no_labels, tested, switched, result_rule, type_maybe, type_test, type_result, type_marks, case_state, default_state, case_labels, default_labels, type_labels, type_stmt, type_body, type_compound, type_items}
 use Rattle.c_tree.specs.Units.{specs_place, with_variables, variable_of, begun_function, type_external, type_externals}
-use Rattle.probe_rules.proofs.Grows.{Grows, ◌▸◌, as_it_was, complain_grows, demand_grows, rule_grows, claim_grows, node_grows, lengths_grow, specs_grow, mention_grows}
+use Rattle.c_tree.proofs.Grows.{Grows, ◌▸◌, as_it_was, complain_grows, demand_grows, rule_grows, claim_grows, node_grows, lengths_grow, specs_grow, mention_grows}
 
 -- ---- initialisers
 
