@@ -10,15 +10,11 @@ use Rattle.c_lex.specs.declared.lexer.TextKind.TheVariants.{Plain}
 use Rattle.c_lex.proofs.Soundness.{given_is_sound}
 use Rattle.c_syntax.specs.declared.tree.ProgramLine.{ProgramLine}
 use Rattle.c_syntax.specs.Shape.{UnitShape}
-use Rattle.c_syntax.specs.Forms.{kinds_of}
-use Rattle.c_syntax.specs.Grammar.{tokens_of}
 use Rattle.c_placing.specs.Unplaced.{unplaced_line, EqualButForPlaces}
-use Rattle.c_placing.proofs.Written.{placed_kinds}
 use Rattle.c_sites_probes.specs.Owned.{owner_of, owned_in}
 use Rattle.c_tree.specs.Programs.{IsProgram, digest_in}
-use Rattle.c_tree.proofs.Bare.{unit_bare}
-use Rattle.c_tree.proofs.Programs.{program_typed}
-use Rattle.c_tree.specs.Units.{typed_unit, bodies}
+use Rattle.c_tree.proofs.Programs.{program_typed, is_sound}
+use Rattle.c_tree.specs.Units.{typed_unit}
 use Rattle.c_front.specs.Front.{program}
 use Rattle.c_meaning.specs.Calls.{Source}
 use Rattle.c_meaning.specs.Runs.{Outcome}
@@ -34,13 +30,12 @@ use Rattle.probe_laws.specs.Laws.{IsTaken}
 use Rattle.probe_laws.specs.Owners.{owner_in_program}
 use Rattle.probe_laws.proofs.Laws.{taken_is_plain, taken_is_few}
 use Rattle.probe_laws.proofs.Owners.{program_owns, program_owns_few}
-use Rattle.c_tree.specs.Lexed.{AreLexed}
-use Rattle.c_tree.proofs.BareForms.{tokens_same}
 use Rattle.probe_text.specs.Text.{text_in}
-use Rattle.probe_reads.specs.ReadBack.{ReadsAs, IsWritten}
+use Rattle.probe_programs.specs.Programs.{IsDigest, IsPlainProgram}
+use Rattle.probe_reads.specs.ReadBack.{ReadsAs}
+use Rattle.probe_reads.proofs.ReadBack.{written_reads_back}
 use Rattle.probe_kept.specs.Kept.{RunsAs}
-use Rattle.probe_written.specs.Written.{IsDigest}
-use Rattle.probe_written.proofs.Whole.{text_reads, text_runs}
+use Rattle.probe_kept.proofs.Kept.{kept_runs}
 use Rattle.atac_programs.specs.Programs.{IsAccepted, IsInstrumented, IsProbed, program_in, with_probes, events, shown_by, met_by, owner_in_probed}
 use Rattle.atac_programs.specs.Sections.{section_text}
 use Rattle.atac_base.specs.Outside.{ShelfState, SinkState}
@@ -50,37 +45,25 @@ use Rattle.atac_top.specs.Claims.{Shows}
 use Rattle.atac_top.specs.Runs.{Handed}
 use Rattle.atac_top.specs.Readings.{IsRunMore}
 use Rattle.atac_kept.specs.Kept.{KeptTextsRunAsPrograms, RunShows, RunIntoShows, KeptTextsShowPrograms, KeptTextsRecordPrograms}
-use Rattle.atac_kept.proofs.Digests.{digest_bytes_so, spelling_bytes}
+use Rattle.atac_kept.proofs.Digests.{digest_bytes_so}
 use Rattle.atac_kept.proofs.Owned.{owned_same}
 
--- ---- an accepted program, whose tokens a text gives
-
-lexed_so : (source : List ℕ) → AreBytes source → (a : IsAccepted source) → AreLexed (tokens_of a.unit)
-lexed_so source bytes a =
-    let u = a.read.unit in
-    let given = a.read.written in
-    let sound = given_is_sound Plain source given.tokens bytes given.given in
-    let same : tokens_of a.unit ≡ tokens_of u =
-    ap tokens_of a.read.typed.unit ∙ (sym (tokens_same (typed_unit u).unit) ∙ (ap tokens_of (unit_bare (Some (bodies u)) u) ∙ tokens_same u)) in
-    let kinds : kinds_of given.tokens ≡ tokens_of a.unit = placed_kinds u given.tokens given.placed ∙ sym same in
-    subst AreLexed kinds (record { tokens = sound.tokens; kept = sound.kept; apart = sound.apart })
+-- ---- an accepted program
 
 program_so : (source : List ℕ) → AreBytes source → (a : IsAccepted source) → IsProgram a.unit a.tables
 program_so source bytes a =
     let u = a.read.unit in
     let given = a.read.written in
     let sound = given_is_sound Plain source given.tokens bytes given.given in
-    let kinds = placed_kinds u given.tokens given.placed in
-    let few : length (tokens_of u) ≤ 350000 = subst (λ ks. length ks ≤ 350000) kinds (omega (arith, sound.few)) in
-    let is = program_typed u (record { shaped = given.shaped; few = few }) a.read.typed.clean in
+    let lexed = record { tokens = sound.tokens; kept = sound.kept; apart = sound.apart } in
+    let is = program_typed u (is_sound u given.tokens given.shaped given.placed lexed) a.read.typed.clean in
     subst (λ v. IsProgram v a.tables) (sym a.read.typed.unit) (subst (λ t. IsProgram (typed_unit u).unit t) (sym a.read.typed.tables) is)
 
-written_so : (source : List ℕ) → AreBytes source → (a : IsAccepted source) → IsWritten (program_in a)
-written_so source bytes a = record {
+plain_so : (source : List ℕ) → AreBytes source → (a : IsAccepted source) → IsPlainProgram (program_in a)
+plain_so source bytes a = record {
   program = program_so source bytes a;
   plain = taken_is_plain (program_in a) a.clean;
   few = taken_is_few (program_in a) a.clean;
-  lexed = lexed_so source bytes a;
 }
 
 digest_so : (source : List ℕ) → IsDigest (encode_lower (sha256 source))
@@ -115,10 +98,9 @@ kept_texts_run source text bytes k =
     let a = k.accepted in
     let P = program_in a in
     let digest = encode_lower (sha256 source) in
-    let spelled = spelling_bytes (sha256 source) (digest_bytes_so source) in
-    let is = written_so source bytes a in
-    let r : RunsAs (text_in (with_probes source P).unit) P = text_runs digest P spelled (digest_so source) is k.fits in
-    let w : ReadsAs (text_in (with_probes source P).unit) (with_probes source P).unit P.tables = text_reads digest P spelled (digest_so source) is k.fits in
+    let is = plain_so source bytes a in
+    let r : RunsAs (text_in (with_probes source P).unit) P = kept_runs digest P (digest_so source) is k.fits in
+    let w : ReadsAs (text_in (with_probes source P).unit) (with_probes source P).unit P.tables = written_reads_back digest P (digest_so source) is k.fits in
     let Q : Source = record { unit = r.unit; tables = P.tables } in
     let one : program w.unit P.tables ≡ program r.unit P.tables = r.alone (program w.unit P.tables) w.read in
     let unit : w.unit ≡ r.unit = cc in

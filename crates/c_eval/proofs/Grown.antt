@@ -14,16 +14,18 @@ use Rattle.c_tables.specs.Tables.{FunctionShape, TablesShape}
 use Rattle.c_tables.specs.Rows.{row}
 use Rattle.c_walk.specs.declared.around.Taken.TheVariants.{Read as Reading, Copied}
 use Rattle.c_walk.specs.Places.{holds_structure}
+use Rattle.c_walk.specs.Tests.{choosing}
 use Rattle.c_meaning.specs.State.{State}
 use Rattle.c_meaning.specs.Results.{Got, Gives, then_do, settled, needed}
 use Rattle.c_meaning.specs.Operators.{converted, is_true, operated, stepped_by_one, element_pointer, of_one, target, pointed}
 use Rattle.c_meaning.specs.Firsts.{First, quiet}
 use Rattle.c_meaning.specs.Places.{marks}
-use Rattle.c_meaning.specs.Constants.{kind_noted, type_at}
+use Rattle.c_meaning.specs.Constants.{kind_noted, type_at, select_constants}
 use Rattle.c_meaning.specs.Knot.{Knot}
 use Rattle.c_meaning.specs.Builtins.{called, called_row, as_parameter}
 use Rattle.c_meaning.specs.Expressions.{meaning, arguments, gives, operand, cast_value, tested, last_test, assigned}
 use Rattle.c_meaning.specs.Lasting.{Lasts, Lasted, Keeps, IsLater}
+use Rattle.c_meaning.proofs.Numbered.{outcome_counts, chosen_counts}
 use Rattle.c_meaning.proofs.Steadily.{at_rest, then_kept, call_kept, if_kept, settled_kept, present_kept, needed_kept, logs_kept, loaded_kept, fetched_kept, field_kept, written_kept, stepped_kept, built_in_kept}
 use Rattle.c_meaning.proofs.Copies.{copied_kept}
 use Rattle.c_meaning.proofs.SteadyNodes.{node_steady, tested_kept, arm_kept}
@@ -100,8 +102,8 @@ module _ (R C Q S : State → State → Type 0) (lasts : Lasts R C Q S) where
 
   -- the value in a probe
   probed_kept : (f : ExprShape) (v : Value) (s : State) → Lasted R Q s (probed f v s)
-  probed_kept (probe (simple test x) a) v s = logs_kept R C Q S lasts _ (x ∷ []) s _ (λ m s. lasts.told s _) (λ s. still _ s)
-  probed_kept (probe (select x cs) a) v s = logs_kept R C Q S lasts _ (x ∷ []) s _ (λ m s. lasts.told s _) (λ s. still _ s)
+  probed_kept (probe (simple test x) a) v s = logs_kept R C Q S lasts _ (x ∷ []) s _ (λ m s n. lasts.told s _ (n, outcome_counts (is_true v))) (λ s. still _ s)
+  probed_kept (probe (select x cs) a) v s = logs_kept R C Q S lasts _ (x ∷ []) s _ (λ m s n. lasts.told s _ (n, chosen_counts (choosing a) v (select_constants (choosing a) cs))) (λ s. still _ s)
   probed_kept (probe (simple block x) a) v s = at_rest R C Q S lasts _ _ (lasts.same s)
   probed_kept (probe (simple used x) a) v s = at_rest R C Q S lasts _ _ (lasts.same s)
   probed_kept (probe (simple def x) a) v s = at_rest R C Q S lasts _ _ (lasts.same s)

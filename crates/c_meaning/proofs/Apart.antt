@@ -88,7 +88,7 @@ apart_lasts = record {
     done = record { deeds = record { activation = activation s; act = a } ∷ []; is = refl; all = All-cons (IsOwnOrNew s) (record { activation = activation s; act = a }) [] (inl refl) (All-nil (IsOwnOrNew s)); last = omega arith };
     calls = refl;
   };
-  told = λ s e. inside s (logged e s) refl (omega arith) refl;
+  told = λ s e n. inside s (logged e s) refl (omega arith) refl;
   named = λ s bs. inside s (record s { file = bs }) refl (omega arith) refl;
   scoped = λ s f. inside s (record s { calls = in_call f s.calls }) refl (omega arith) (in_call_activations f s.calls);
   whole = λ s f t p. record {

@@ -88,12 +88,12 @@ module _ (R C Q S : State → State → Type 0) (lasts : Lasts R C Q S) where
   cells_used_kept : {A : Type 0} (way : Event → Act) (xs : List Text) (i : First) (q : Pointer) (n : ℕ) (s : State) (g : State → Got A) → ((t : State) → Lasted R Q t (g t)) → Lasted R Q s (cells_used way xs i q n s g)
   cells_used_kept way xs i q zero s g go = go s
   cells_used_kept way xs i q (suc n) s g go =
-      behind_step R C Q S lasts s (noted_use way i q s) _ (use_kept R C Q S lasts way i q s) (logs_kept R C Q S lasts (log_use q) xs (noted_use way i q s) _ (λ m s. lasts.told s _) (λ s. cells_used_kept repeats xs i (next_cell q) n s g go))
+      behind_step R C Q S lasts s (noted_use way i q s) _ (use_kept R C Q S lasts way i q s) (logs_kept R C Q S lasts (log_use q) xs (noted_use way i q s) _ (λ m s n. lasts.told s _ n) (λ s. cells_used_kept repeats xs i (next_cell q) n s g go))
 
   cells_defined_kept : {A : Type 0} (way : Event → Act) (xs : List Text) (i : First) (q : Pointer) (n : ℕ) (s : State) (g : State → Got A) → ((t : State) → Lasted R Q t (g t)) → Lasted R Q s (cells_defined way xs i q n s g)
   cells_defined_kept way xs i q zero s g go = go s
   cells_defined_kept way xs i q (suc n) s g go =
-      behind_step R C Q S lasts s (noted_def way i q s) _ (def_kept R C Q S lasts way i q s) (logs_kept R C Q S lasts (log_def q) xs (noted_def way i q s) _ (λ m s. lasts.told s _) (λ s. cells_defined_kept repeats xs i (next_cell q) n s g go))
+      behind_step R C Q S lasts s (noted_def way i q s) _ (def_kept R C Q S lasts way i q s) (logs_kept R C Q S lasts (log_def q) xs (noted_def way i q s) _ (λ m s n. lasts.told s _ n) (λ s. cells_defined_kept repeats xs i (next_cell q) n s g go))
 
   pub copied_kept : (ds us : List Text) (i j : First) (q r : Pointer) (s : State) → Lasted R Q s (copied ds us i j q r s)
   copied_kept ds us i j q r s =

@@ -9,6 +9,7 @@ pub mod QuietRuns
 pub mod QuietCalls
 pub mod Twice
 pub mod Knots
+pub mod Numbered
 pub mod Steadily
 pub mod Copies
 pub mod SteadyNodes

@@ -26,7 +26,8 @@ use Rattle.c_meaning.specs.Places.{whole, first_cell, next_cell, logs_one, logs,
 use Rattle.c_meaning.specs.Builtins.{next_byte, put_byte, exits, built_in}
 use Rattle.c_meaning.specs.Expressions.{gives, number_value, literal_value, noted_value, written, stepped_from}
 use Rattle.c_meaning.specs.Declarations.{new_instance, make, name_marks, filled, filled_whole, scalar_written}
-use Rattle.c_meaning.specs.Lasting.{Lasts, Lasted}
+use Rattle.c_meaning.specs.Lasting.{IsProbeNumber, Lasts, Lasted}
+use Rattle.c_meaning.proofs.Numbered.{AllProbeNumbers, probe_numbered}
 
 -- the store has given as many numbers as before
 abbrev pub SameCount : ℕ → Result Cells Fault → Type 0
@@ -103,15 +104,15 @@ module _ (R C Q S : State → State → Type 0) (lasts : Lasts R C Q S) where
 
   -- a way to log
   abbrev pub Logging : (ℕ → State → State) → Type 0
-  Logging log = (m : ℕ) (s : State) → R s (log m s)
+  Logging log = (m : ℕ) (s : State) → IsProbeNumber m → R s (log m s)
 
-  one_kept : {A : Type 0} (log : ℕ → State → State) (x : Option ℕ) (s : State) (g : State → Got A) → Logging log → ((t : State) → Lasted R Q t (g t)) → Lasted R Q s (logs_one log x s g)
-  one_kept log None s g l go = at_rest _ _ (lasts.same s)
-  one_kept log (Some m) s g l go = behind_step s (log m s) _ (l m s) (go (log m s))
+  one_kept : {A : Type 0} (log : ℕ → State → State) (x : Option ℕ) (s : State) (g : State → Got A) → AllProbeNumbers x → Logging log → ((t : State) → Lasted R Q t (g t)) → Lasted R Q s (logs_one log x s g)
+  one_kept log None s g n l go = at_rest _ _ (lasts.same s)
+  one_kept log (Some m) s g n l go = behind_step s (log m s) _ (l m s n) (go (log m s))
 
   pub logs_kept : {A : Type 0} (log : ℕ → State → State) (xs : List Text) (s : State) (g : State → Got A) → Logging log → ((t : State) → Lasted R Q t (g t)) → Lasted R Q s (logs log xs s g)
   logs_kept log [] s g l go = go s
-  logs_kept log (x ∷ xs) s g l go = one_kept log (probe_number_of x) s _ l (λ t. logs_kept log xs t g l go)
+  logs_kept log (x ∷ xs) s g l go = one_kept log (probe_number_of x) s _ (probe_numbered x) l (λ t. logs_kept log xs t g l go)
 
   -- ---- what is told
 
@@ -152,12 +153,12 @@ module _ (R C Q S : State → State → Type 0) (lasts : Lasts R C Q S) where
 
   pub loaded_kept : (xs : List Text) (i : First) (q : Pointer) (s : State) → Lasted R Q s (loaded xs i q s)
   loaded_kept xs i q s =
-      then_kept s _ _ (settled_kept (read_of s.store q) s) (λ v s. behind_step s (noted_use tells i q s) _ (use_kept tells i q s) (logs_kept (log_use q) xs (noted_use tells i q s) _ (λ m s. lasts.told s _) (λ s. at_rest _ _ (lasts.same s))))
+      then_kept s _ _ (settled_kept (read_of s.store q) s) (λ v s. behind_step s (noted_use tells i q s) _ (use_kept tells i q s) (logs_kept (log_use q) xs (noted_use tells i q s) _ (λ m s n. lasts.told s _ n) (λ s. at_rest _ _ (lasts.same s))))
 
   pub stored_kept : (way : Event → Act) (xs : List Text) (i : First) (q : Pointer) (v : Value) (s : State) → Lasted R Q s (stored way xs i q v s)
   stored_kept way xs i q v s =
       store_kept (write_of s.store q v) s _ (write_count s.store (element_of s.store.live q) q v) (λ c.
-      behind_step (record s { store = c }) (noted_def way i q (record s { store = c })) _ (def_kept way i q (record s { store = c })) (logs_kept (log_def q) xs (noted_def way i q (record s { store = c })) _ (λ m s. lasts.told s _) (λ s. at_rest _ _ (lasts.same s))))
+      behind_step (record s { store = c }) (noted_def way i q (record s { store = c })) _ (def_kept way i q (record s { store = c })) (logs_kept (log_def q) xs (noted_def way i q (record s { store = c })) _ (λ m s n. lasts.told s _ n) (λ s. at_rest _ _ (lasts.same s))))
 
   selected_kept : (q : Pointer) (offset n size : ℕ) (s : State) → Lasted R Q s (selected_place q offset n size s)
   selected_kept q offset n size s = if_kept s (has_part q offset n size) _ _ (settled_kept (selected s.store q offset n size) s) (at_rest _ _ (lasts.same s))

@@ -16,17 +16,19 @@ use Rattle.c_tables.specs.Rows.{row}
 use Rattle.c_walk.specs.declared.around.Taken.{Taken}
 use Rattle.c_walk.specs.declared.around.Taken.TheVariants.{Read, Written, Changed, Copied, Addressed}
 use Rattle.c_walk.specs.Places.{holds_structure}
+use Rattle.c_walk.specs.Tests.{choosing}
 use Rattle.c_meaning.specs.State.{State}
 use Rattle.c_meaning.specs.Results.{Got, Gives, then_do, settled, needed}
 use Rattle.c_meaning.specs.Operators.{is_true, operated, stepped_by_one, element_pointer, of_one, target, pointed}
 use Rattle.c_meaning.specs.Firsts.{First, at_test, at_arm, behind_test, behind_arm, noted_block}
 use Rattle.c_meaning.specs.Places.{marks, fetched}
-use Rattle.c_meaning.specs.Constants.{type_at, kind_noted}
+use Rattle.c_meaning.specs.Constants.{type_at, kind_noted, select_constants}
 use Rattle.c_meaning.specs.Knot.{Knot}
 use Rattle.c_meaning.specs.Builtins.{called, called_row, params_of}
 use Rattle.c_meaning.specs.Expressions.{Meaning, as_value, as_place, gives, operand, name_meaning, leaf_meaning, cast_value, tested, arm, last_test, assigned, step_value, meaning, form_meaning, arguments}
 use Rattle.c_meaning.specs.Lasting.{Lasts, Lasted, Keeps, Steady}
 use Rattle.c_meaning.proofs.Copies.{copied_kept}
+use Rattle.c_meaning.proofs.Numbered.{outcome_counts, chosen_counts}
 use Rattle.c_meaning.proofs.Steadily.{at_rest, behind_step, then_kept, call_kept, if_kept, turn_kept, settled_kept, needed_kept, logs_kept, block_kept, test_kept, loaded_kept, fetched_kept, variable_kept, field_kept, written_kept, stepped_kept, number_kept, literal_kept, noted_kept, built_in_kept}
 
 module _ (R C Q S : State → State → Type 0) (lasts : Lasts R C Q S) where
@@ -156,17 +158,17 @@ module _ (R C Q S : State → State → Type 0) (lasts : Lasts R C Q S) (t : Tab
         (if_kept R C Q S lasts s x _ _ (arm_kept R C Q S lasts b (behind_test a i) s (meaning t k b).value (λ j s. (node_steady b).value_steady j s)) (arm_kept R C Q S lasts c (behind_arm b (behind_test a i)) s (meaning t k c).value (λ j s. (node_steady c).value_steady j s)))
         (λ v s. still R C Q S lasts _ s)))
     form_steady p n (probe (simple block x) a) = record {
-      value_steady = λ i s. logs_kept R C Q S lasts _ (x ∷ []) s _ (λ m s. lasts.told s _) (λ s. (node_steady a).value_steady i s);
-      place_steady = λ r i s. logs_kept R C Q S lasts _ (x ∷ []) s _ (λ m s. lasts.told s _) (λ s. (node_steady a).place_steady r i s);
+      value_steady = λ i s. logs_kept R C Q S lasts _ (x ∷ []) s _ (λ m s n. lasts.told s _ n) (λ s. (node_steady a).value_steady i s);
+      place_steady = λ r i s. logs_kept R C Q S lasts _ (x ∷ []) s _ (λ m s n. lasts.told s _ n) (λ s. (node_steady a).place_steady r i s);
     }
     form_steady p n (probe (simple test x) a) = record {
-      value_steady = λ i s. then_kept R C Q S lasts s _ _ (needed_kept R C Q S lasts s _ ((node_steady a).value_steady i s)) (λ v s. logs_kept R C Q S lasts _ (x ∷ []) s _ (λ m s. lasts.told s _) (λ s. still R C Q S lasts _ s));
+      value_steady = λ i s. then_kept R C Q S lasts s _ _ (needed_kept R C Q S lasts s _ ((node_steady a).value_steady i s)) (λ v s. logs_kept R C Q S lasts _ (x ∷ []) s _ (λ m s n. lasts.told s _ (n, outcome_counts (is_true v))) (λ s. still R C Q S lasts _ s));
       place_steady = λ r i s. at_rest R C Q S lasts _ _ (lasts.same s);
     }
     form_steady p n (probe (simple used x) a) = place_steadies R C Q S lasts t n _ _ (λ r i s. (node_steady a).place_steady r i s)
     form_steady p n (probe (simple def x) a) = place_steadies R C Q S lasts t n _ _ (λ r i s. (node_steady a).place_steady r i s)
     form_steady p n (probe (select x cs) a) = record {
-      value_steady = λ i s. then_kept R C Q S lasts s _ _ (needed_kept R C Q S lasts s _ ((node_steady a).value_steady i s)) (λ v s. logs_kept R C Q S lasts _ (x ∷ []) s _ (λ m s. lasts.told s _) (λ s. still R C Q S lasts _ s));
+      value_steady = λ i s. then_kept R C Q S lasts s _ _ (needed_kept R C Q S lasts s _ ((node_steady a).value_steady i s)) (λ v s. logs_kept R C Q S lasts _ (x ∷ []) s _ (λ m s n. lasts.told s _ (n, chosen_counts (choosing a) v (select_constants (choosing a) cs))) (λ s. still R C Q S lasts _ s));
       place_steady = λ r i s. at_rest R C Q S lasts _ _ (lasts.same s);
     }
 

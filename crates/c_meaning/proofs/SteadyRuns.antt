@@ -137,7 +137,7 @@ module _ (R C Q S : State → State → Type 0) (lasts : Lasts R C Q S) (t : Tab
     pub flow_kept : (b : Bool) (a : StmtShape) (i : First) (s : State) → Lasted R Q s (flow t k b a i s)
     flow_kept b (stmt p ms q f) i s =
         behind_step R C Q S lasts s (noted_block b i s) _ (block_kept R C Q S lasts b i s)
-        (logs_kept R C Q S lasts log_block (map (λ m. m.number) ms) (noted_block b i s) _ (λ m s. lasts.told s _) (λ s. turn_kept R C Q S lasts s _ (λ s. form_kept f (at_block b p i) s)))
+        (logs_kept R C Q S lasts log_block (map (λ m. m.number) ms) (noted_block b i s) _ (λ m s n. lasts.told s _ n) (λ s. turn_kept R C Q S lasts s _ (λ s. form_kept f (at_block b p i) s)))
 
     form_kept : (f : FormShape) (i : First) (s : State) → Lasted R Q s (form_flow t k f i s)
     form_kept (compound c) i s =
@@ -178,7 +178,7 @@ module _ (R C Q S : State → State → Type 0) (lasts : Lasts R C Q S) (t : Tab
   body_flow_kept : (ms : List ProbeMark) (c : CompoundShape) (i : First) (s : State) → Lasted R Q s (body_flow t k ms c i s)
   body_flow_kept ms (braces p ds items) i s =
       behind_step R C Q S lasts s (noted_block true i s) _ (block_kept R C Q S lasts true i s)
-      (logs_kept R C Q S lasts log_block (map (λ m. m.number) ms) (noted_block true i s) _ (λ m s. lasts.told s _) (λ s. turn_kept R C Q S lasts s _ (λ s. compound_kept (braces p ds items) (at_block true p i) s)))
+      (logs_kept R C Q S lasts log_block (map (λ m. m.number) ms) (noted_block true i s) _ (λ m s n. lasts.told s _ n) (λ s. turn_kept R C Q S lasts s _ (λ s. compound_kept (braces p ds items) (at_block true p i) s)))
 
 -- ---- calls
 
@@ -305,7 +305,7 @@ later_lasts = record {
   read = λ s bs. alike s (record s { input = bs }) refl refl refl (omega arith) (omega arith) (omega arith);
   put = λ s bs. record { output = front_of s.output bs; deeds = front_same s.deeds; log = front_same s.log; turns = omega arith; made = omega arith; last = omega arith };
   done = λ s a. record { output = front_same s.output; deeds = front_of s.deeds (record { activation = activation s; act = a } ∷ []); log = front_same s.log; turns = omega arith; made = omega arith; last = omega arith };
-  told = λ s e. record { output = front_same s.output; deeds = front_same s.deeds; log = front_of s.log (e ∷ []); turns = omega arith; made = omega arith; last = omega arith };
+  told = λ s e n. record { output = front_same s.output; deeds = front_same s.deeds; log = front_of s.log (e ∷ []); turns = omega arith; made = omega arith; last = omega arith };
   named = λ s bs. alike s (record s { file = bs }) refl refl refl (omega arith) (omega arith) (omega arith);
   scoped = λ s f. alike s (record s { calls = in_call f s.calls }) refl refl refl (omega arith) (omega arith) (omega arith);
   whole = λ s f t p. record {

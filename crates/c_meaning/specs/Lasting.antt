@@ -1,6 +1,7 @@
 -- Relations between a state and a later one that each step of a run keeps, and so the whole of what a part of a program does.
 use Rattle.std.specs.Prelude.{◌≡◌, ◌≤◌, ◌<◌, ◌⊎◌, ℕ, List, ◌++◌, map, All}
 use Rattle.c_events.specs.declared.events.Event.{Event}
+use Rattle.c_events.specs.declared.events.Event.TheVariants.{Block, Test, Use, Def}
 use Rattle.c_store.specs.declared.value.Value.{Value}
 use Rattle.c_store.specs.Cells.{Cells}
 use Rattle.c_walk.specs.declared.around.Taken.{Taken}
@@ -10,6 +11,16 @@ use Rattle.c_meaning.specs.Firsts.{First}
 use Rattle.c_meaning.specs.Knot.{Loop, Knot}
 use Rattle.c_meaning.specs.Expressions.{Meaning}
 use Rattle.c_meaning.specs.Calls.{activated, left}
+
+-- what a probe logs: numbers that a probe may have, and the number of an outcome
+abbrev pub IsProbeNumber : ℕ → Type 0
+IsProbeNumber n = (1 ≤ n) × (n ≤ 16383)
+
+abbrev pub IsTold : Event → Type 0
+IsTold (Block n) = IsProbeNumber n
+IsTold (Test n o a) = IsProbeNumber n × (1 ≤ o)
+IsTold (Use n c a) = IsProbeNumber n
+IsTold (Def n c) = IsProbeNumber n
 
 -- The first relation holds between a state and what a part of a call comes to, the second between a state and what a whole call comes to,
 -- the third between a state and one in which the run stops, and the fourth between a state and one in which it stops in a call.
@@ -23,7 +34,7 @@ pub record Lasts (R C Q S : State → State → Type 0) : Type 0 where
   pub read : (s : State) (bs : List ℕ) → R s (record s { input = bs })
   pub put : (s : State) (bs : List ℕ) → R s (record s { output = s.output ++ bs })
   pub done : (s : State) (a : Act) → R s (did a s)
-  pub told : (s : State) (e : Event) → R s (logged e s)
+  pub told : (s : State) (e : Event) → IsTold e → R s (logged e s)
   -- names and scopes come and go
   pub named : (s : State) (bs : List Bound) → R s (record s { file = bs })
   pub scoped : (s : State) (f : List (List Bound) → List (List Bound)) → R s (record s { calls = in_call f s.calls })

@@ -51,5 +51,5 @@ pub fn instrument(
     let digits = digest_text(alloc, digest)?;
     let unit = instrumented(alloc, &digits, program.unit())?;
     let tables = copy_tables(alloc, program.tables())?;
-    Ok(Program::with_probes(unit, tables))
+    Ok(Program::from_typed(unit, tables))
 }

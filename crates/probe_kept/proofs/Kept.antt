@@ -11,9 +11,9 @@ use Rattle.probe_reads.proofs.ReadBack.{written_reads_back}
 use Rattle.probe_kept.specs.Kept.{KeptRunsAsProgram}
 
 pub kept_runs : KeptRunsAsProgram
-kept_runs digest P bytes is fits typed =
+kept_runs digest P spelled is fits =
     let Q = instrumented digest P in
-    let r = written_reads_back digest P bytes is fits typed in
+    let r = written_reads_back digest P spelled is fits in
     record {
       unit = r.unit;
       read = r.read;

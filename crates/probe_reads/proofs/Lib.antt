@@ -1,2 +1,1 @@
-mod ShapedBare
 pub mod ReadBack

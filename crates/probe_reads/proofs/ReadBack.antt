@@ -1,17 +1,14 @@
--- What is written of a program with its probes is read as that program but for places, where typing gives its tree.
+-- What is written of a program with its probes is read as that program but for places.
 use Rattle.std.proofs.Common.{◌≡◌, ℕ, List, [], ◌∷◌, map, Option, Some, None, Bool, is_some, refl, sym, ap, subst, ◌∙◌}
 use Rattle.c_syntax.specs.declared.token.TokenKind.{TokenKind}
 use Rattle.c_syntax.specs.Forms.{kinds_of}
 use Rattle.c_syntax.specs.Grammar.{tokens_of}
 use Rattle.c_syntax.specs.Shape.{UnitShape}
-use Rattle.c_syntax.specs.Shaped.{ShapedUnit}
 use Rattle.c_tables.specs.Tables.{TablesShape}
 use Rattle.c_tree.specs.declared.meaning.Complaint.{Complaint}
-use Rattle.c_tree.specs.Programs.{IsProgram}
 use Rattle.c_tree.specs.Units.{type_unit, typed_unit, bodies, complaints}
 use Rattle.c_tree.specs.Unnoted.{bare_unit}
-use Rattle.c_tree.proofs.Bare.{unit_bare}
-use Rattle.c_meaning.specs.Calls.{Source}
+use Rattle.c_tree.proofs.Programs.{program_lexed}
 use Rattle.c_placing.specs.Unplaced.{unplaced, EqualButForPlaces}
 use Rattle.c_unplaced.specs.Unplaced.{unplaced_complaint, unplaced_state}
 use Rattle.c_unplaced.proofs.Units.{unit_typed}
@@ -19,8 +16,10 @@ use Rattle.probe_parsed.specs.Parsed.{IsParsed}
 use Rattle.probe_parsed.proofs.Parsed.{instrumented_is_parsed}
 use Rattle.probe_rules.specs.Instrumented.{instrumented}
 use Rattle.probe_text.specs.Text.{placed, text_in}
-use Rattle.probe_reads.specs.ReadBack.{IsTypedAs, ReadsAs, WrittenReadsBack}
-use Rattle.probe_reads.proofs.ShapedBare.{shaped_bare}
+use Rattle.probe_programs.specs.Programs.{IsTypedAs}
+use Rattle.probe_programs.proofs.Digests.{digest_bytes}
+use Rattle.probe_programs.proofs.Whole.{shaped_program, probed_is_typed}
+use Rattle.probe_reads.specs.ReadBack.{ReadsAs, WrittenReadsBack}
 
 -- ---- units that are equal but for places are typed alike
 
@@ -45,11 +44,6 @@ none_left (c ∷ cs) e = absurd (subst HasComplaint e tt)
 
 typed_as : (u v : UnitShape) → EqualButForPlaces v (bare_unit u) → typed_unit v ≡ type_unit (Some (bodies (bare_unit u))) v
 typed_as u v e = ap (λ b. type_unit (Some b) v) (bodies_alike v (bare_unit u) e)
-
-pub shaped_program : (P : Source) → IsProgram P.unit P.tables → ShapedUnit (bare_unit P.unit)
-shaped_program P is =
-    let source = is.source in
-    subst ShapedUnit (sym (ap bare_unit is.typed ∙ (unit_bare (Some (bodies source)) source ∙ shaped_bare source is.sound.shaped))) is.sound.shaped
 
 kinds_placed : (ks : List TokenKind) → kinds_of (map placed ks) ≡ ks
 kinds_placed [] = refl
@@ -76,9 +70,9 @@ read_as source u t parsed typed =
     }
 
 pub written_reads_back : WrittenReadsBack
-written_reads_back digest P bytes is fits typed =
+written_reads_back digest P spelled is fits =
     let q = (instrumented digest P).unit in
     let ts = map placed (tokens_of q) in
     read_as (text_in q) q P.tables
-    (instrumented_is_parsed digest P ts (record { bytes = bytes; plain = is.plain; few = is.few; lexed = is.lexed; shaped = shaped_program P is.program; within = record { few = fits.tokens; short = fits.bytes } }) (kinds_placed (tokens_of q)))
-    typed
+    (instrumented_is_parsed digest P ts (record { bytes = digest_bytes digest spelled; plain = is.plain; few = is.few; lexed = program_lexed P.unit P.tables is.program; shaped = shaped_program P is.program; within = record { few = fits.tokens; short = fits.bytes } }) (kinds_placed (tokens_of q)))
+    (probed_is_typed digest P spelled is)

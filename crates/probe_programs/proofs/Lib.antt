@@ -1,2 +1,4 @@
+mod ShapedBare
 mod ShapedWritten
+pub mod Digests
 pub mod Whole

@@ -1,6 +1,6 @@
 -- The lemma itself: a search doesn't compute the instrumented program.
-use Rattle.probe_written.proofs.Whole.{probed_is_typed}
-use Rattle.probe_written.proofs.laws.probed_is_typed_as.Goals as goal
+use Rattle.probe_programs.proofs.Whole.{probed_is_typed}
+use Rattle.probe_programs.proofs.laws.probed_is_typed_as.Goals as goal
 
 pub returns : goal.returns
 returns c = probed_is_typed

@@ -1,0 +1,4 @@
+//! A program with its probes is a program of the checker.
+#![tactic(auto)]
+
+pub mod laws;
