@@ -12,9 +12,11 @@ use Rattle.c_syntax.specs.declared.token.Token.{Token}
 use Rattle.c_syntax.specs.declared.tree.Node.{Node}
 use Rattle.c_syntax.specs.Shape.{NodeShapes, no_nodes, TypeShape, SpecShapes, DeclaratorShape, decl, one_node}
 use Rattle.c_syntax.specs.View.{node_shape, node_list, declarator_shape, declarator_list, param_shape, init_shape, maybe_node, enumer_list}
-use Rattle.c_grammar.specs.Look.{Got, got, Finds, after, a_word, start, at_select}
+use Rattle.c_grammar.specs.Look.{Got, got, Finds, after, a_word}
+use Rattle.c_grammar.specs.Starts.{start, at_select}
 use Rattle.c_syntax.specs.Forms.{place}
-use Rattle.c_grammar.specs.Reader.{most_probes, numbered, reads, reads_led, reads_type, fronts, one_more, reads_declarator, reads_declarators, reads_param, reads_init, reads_lengths, plain_name}
+use Rattle.c_grammar.specs.Reader.{reads, reads_led, reads_type, fronts, reads_declarator, reads_declarators, reads_param, reads_init, reads_lengths}
+use Rattle.c_grammar.specs.ExprReader.{most_probes, numbered, one_more, plain_name}
 use Rattle.c_grammar.specs.Parts.{declaring, DeclaratorsRead, enumerators, value, one_length}
 use Rattle.c_grammar.proofs.ExprSteps.{then_fails, closed_found, closed_fails, closed_open, listing, typed, constants, front_select_fails}
 use Rattle.c_grammar.proofs.DeclSteps.{declaring_found, declaring_open}

@@ -9,10 +9,11 @@ use Rattle.c_syntax.specs.Shape.{NodeShape, node, leaf, paren, call, prefix, siz
 use Rattle.c_syntax.specs.Grammar.{node_form, specs_form, decls_form, declarator_form, led_declarators_form}
 use Rattle.c_syntax.specs.Levels.{height, specs_height, decls_height, declarator_height, declarators_height}
 use Rattle.c_syntax.specs.Shaped.{level, in_members, in_names, Shaped, SomeSpecs, ShapedDecls, ShapedDeclarator, ShapedDeclarators}
-use Rattle.c_grammar.specs.Look.{got, Finds, after, after_head, no_sign, sign_head, sign, no_spec, spec_head}
+use Rattle.c_grammar.specs.Look.{got, Finds, after, after_head}
+use Rattle.c_grammar.specs.Starts.{no_sign, sign_head, sign, no_spec, spec_head}
 use Rattle.c_grammar.specs.Reader.{reads, reads_decls, reads_declarator, reads_declarators, reads_some}
 use Rattle.c_grammar.proofs.Looking.{got_eq, same_answer}
-use Rattle.c_grammar.proofs.DeclSteps.{some_found}
+use Rattle.c_grammar.proofs.TypeSteps.{some_found}
 use Rattle.c_grammar.proofs.CompleteExpr.{CompleteNode, CompleteLed, CompleteType, ended_node, mark_ends, leaf_case, paren_case, no_nodes_case, more_nodes_case, call_none_case, call_some_case, prefix_case, size_case, cast_case, index_case, field_case, step_case, two_case, choose_case, simple_case, select_case}
 use Rattle.c_grammar.proofs.CompleteDecl.{CompleteLengths, CompleteSpecs, CompleteSpec, CompleteValue, CompleteEnumers, CompleteDecls, specs_begin, all_specs, no_lengths_case, open_length_case, length_case, type_begins, type_case, no_specs_case, more_specs_case, word_case, struct_plain_case, struct_case, no_value_case, value_case, no_enumers_case, more_enumers_case, enum_plain_case, enum_case}
 use Rattle.c_grammar.proofs.CompleteNames.{Ends, ends_semicolon, CompleteDecl, CompleteDeclarators, CompleteDeclarator, CompleteBehind, CompleteInitOf, CompleteParams, CompleteParamList, CompleteParam, CompleteInit, CompleteInits, init_one_case, init_list_case, no_inits_case, more_inits_case, no_init_case, init_of_case, arrays_case, function_case, declarator_case, no_declarators_case, more_declarators_case, decl_plain_case, decl_case, decls_begin, no_decls_case, more_decls_case, param_case, no_params_case, more_params_case, empty_case, void_case, params_case}

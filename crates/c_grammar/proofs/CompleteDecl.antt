@@ -18,10 +18,13 @@ use Rattle.c_syntax.specs.Shape.{assign, comma, NodeShape, MaybeNode, no_node, o
 use Rattle.c_syntax.specs.Grammar.{named_as, named_form, maybe_named_form, consts_form, stars_form, lengths_form, specs_form, spec_form, enumers_form, led_enumers_form, value_form, decls_form}
 use Rattle.c_syntax.specs.Levels.{maybe_height, lengths_height, specs_height, spec_height, enumers_height, decls_height}
 use Rattle.c_syntax.specs.Shaped.{Standing, in_members, unprobed, is_there, name_fits, ShapedMaybe, ShapedLengths, SomeSpecs, AllSpecs, ShapedSpec, ShapedEnumers, ShapedDecls}
-use Rattle.c_grammar.specs.Look.{got, Finds, after, after_head, after_key, after_key_head, after_probe, after_probe_head, a_word, word_head, Oper, infix_oper, a_sign, no_sign, sign_head, sign, oper_level, no_spec, spec_of_head, spec_head, is_spec}
-use Rattle.c_grammar.specs.Reader.{reads_consts, reads_stars, reads_lengths, reads_specs, reads_enumers, reads_decls, reads_type, plain_name, tag, maybe_named}
-use Rattle.c_grammar.proofs.Looking.{apart, after_is, after_of, after_key_of, after_probe_of, spec_word_key}
-use Rattle.c_grammar.proofs.DeclSteps.{length_none, length_there, lengths_end, lengths_on, consts_end, consts_on, stars_end, stars_on, type_found, some_found, specs_end, structure, enumeration, specs_word, specs_struct, specs_enum, struct_plain, struct_found, enumerators, enum_plain, enum_found, value, value_none, value_some, enumer_on, enumers_end, enumers_on, tag_some, tag_none, named_plain, named_probe}
+use Rattle.c_grammar.specs.Look.{got, Finds, after, after_head, after_key, after_key_head, after_probe, after_probe_head, a_word, word_head}
+use Rattle.c_grammar.specs.Starts.{Oper, infix_oper, a_sign, no_sign, sign_head, sign, oper_level, no_spec, spec_of_head, spec_head, is_spec}
+use Rattle.c_grammar.specs.Reader.{reads_lengths, reads_specs, reads_enumers, reads_decls, reads_type}
+use Rattle.c_grammar.specs.ExprReader.{reads_consts, reads_stars, plain_name, tag, maybe_named}
+use Rattle.c_grammar.proofs.Looking.{apart, after_is, after_of, after_key_of, after_probe_of}
+use Rattle.c_grammar.proofs.Starting.{spec_word_key}
+use Rattle.c_grammar.proofs.TypeSteps.{length_none, length_there, lengths_end, lengths_on, consts_end, consts_on, stars_end, stars_on, type_found, some_found, specs_end, structure, enumeration, specs_word, specs_struct, specs_enum, struct_plain, struct_found, enumerators, enum_plain, enum_found, value, value_none, value_some, enumer_on, enumers_end, enumers_on, tag_some, tag_none, named_plain, named_probe}
 use Rattle.c_grammar.proofs.CompleteLooking.{StopsAt, stops_none, stops_by, none_if, no_mark, node_begins, no_comma}
 use Rattle.c_grammar.proofs.CompleteExpr.{CompleteNode, CompleteType, ended_node, listed_node, mark_ends, TypeBegins, numbered_of}
 

@@ -12,9 +12,12 @@ use Rattle.c_syntax.specs.Shape.{NoteShape, bare, Leaf, number, char, str, name,
 use Rattle.c_syntax.specs.Grammar.{leaf_kind, access_mark, step_mark, node_form, led_nodes_form, type_form}
 use Rattle.c_syntax.specs.Levels.{height, expr_height, nodes_height, type_height, chain, nodes_chain}
 use Rattle.c_syntax.specs.Shaped.{right_least, prefix_least, probe_least, level, expr_level, Shaped, ShapedNodes, ShapedType}
-use Rattle.c_grammar.specs.Look.{Got, got, go_after, Finds, after, a_number, number_head, word_head, Oper, infix_oper, question, bracket, access, step, a_sign, no_sign, sign_head, sign, oper_level, oper_least, is_spec, spec_head, type_if, type_in, type_ahead}
-use Rattle.c_grammar.specs.Reader.{place_of, type_behind, numbered, reads, climbs, reads_led, reads_type, fronts}
-use Rattle.c_grammar.proofs.Looking.{after_of, infix_sign}
+use Rattle.c_grammar.specs.Look.{Got, got, go_after, Finds, after, a_number, number_head, word_head}
+use Rattle.c_grammar.specs.Starts.{Oper, infix_oper, question, bracket, access, step, a_sign, no_sign, sign_head, sign, oper_level, oper_least, is_spec, spec_head, type_if, type_in, type_ahead}
+use Rattle.c_grammar.specs.Reader.{reads, climbs, reads_led, reads_type, fronts}
+use Rattle.c_grammar.specs.ExprReader.{place_of, type_behind, numbered}
+use Rattle.c_grammar.proofs.Looking.{after_of}
+use Rattle.c_grammar.proofs.Starting.{infix_sign}
 use Rattle.c_grammar.proofs.ExprSteps.{closed_found, climb_on, read_on, grown, grow_infix, grow_choose, grow_index, grow_field, grow_step, led_end, led_on, listing_found, arguments_none, arguments_some, front_number, front_char, front_str, front_name, front_call, front_prefix, typed, front_size, front_paren, front_cast, probed_found, front_simple, front_select}
 use Rattle.c_grammar.proofs.CompleteLooking.{StopsAt, after_level, right_high, oper_left, left_follows, after_one, stops_up, right_stops, prefix_stops, climb_none, takes_left, stops_none, stops_by, height_some, chain_few, chains_few, no_mark, leaf_start, prefix_start, paren_start, simple_start, select_start, node_begins, begins_at, paren_type, no_type_operand, no_call, no_comma}
 

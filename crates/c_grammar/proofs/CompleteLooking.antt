@@ -18,9 +18,12 @@ use Rattle.c_syntax.specs.Shape.{Leaf, number, char, str, name, Step, up, down, 
 use Rattle.c_syntax.specs.Grammar.{leaf_kind, prefix_kind, probing_word, node_form}
 use Rattle.c_syntax.specs.Levels.{height, chain, nodes_chain}
 use Rattle.c_syntax.specs.Shaped.{binary_level, infix_level, right_least, prefix_least, level, Shaped, ShapedNodes}
-use Rattle.c_grammar.specs.Look.{got, Finds, after, after_head, after_key, Oper, infix_oper, question, bracket, access, step, open_paren, Sign, a_sign, no_sign, sign_head, sign, oper_level, oper_least, Start, at_leaf, at_prefix, at_paren, at_simple, at_select, no_start, start_mark, start_key, start_head, start, no_spec, spec_key, spec_of_head, spec_head, is_spec, type_if, type_in, type_ahead}
-use Rattle.c_grammar.specs.Reader.{place_of, takes, climbs}
-use Rattle.c_grammar.proofs.Looking.{after_is, after_of, after_key_is, start_of}
+use Rattle.c_grammar.specs.Look.{got, Finds, after, after_head, after_key}
+use Rattle.c_grammar.specs.Starts.{Oper, infix_oper, question, bracket, access, step, open_paren, Sign, a_sign, no_sign, sign_head, sign, oper_level, oper_least, Start, at_leaf, at_prefix, at_paren, at_simple, at_select, no_start, start_mark, start_key, start_head, start, no_spec, spec_key, spec_of_head, spec_head, is_spec, type_if, type_in, type_ahead}
+use Rattle.c_grammar.specs.Reader.{climbs}
+use Rattle.c_grammar.specs.ExprReader.{place_of, takes}
+use Rattle.c_grammar.proofs.Looking.{after_is, after_of, after_key_is}
+use Rattle.c_grammar.proofs.Starting.{start_of}
 use Rattle.c_grammar.proofs.ExprSteps.{climb_end, climb_stop}
 
 -- OPERATORS

@@ -20,10 +20,12 @@ use Rattle.c_syntax.specs.Shape.{plain, comma, NodeShape, LengthShapes, no_lengt
 use Rattle.c_syntax.specs.Grammar.{named_as, maybe_named_form, stars_form, lengths_form, specs_form, decls_form, decl_form, declarators_form, led_declarators_form, declarator_form, behind_form, params_form, param_list_form, led_params_form, param_form, maybe_init_form, init_form, led_inits_form, comma_form}
 use Rattle.c_syntax.specs.Levels.{decls_height, decl_height, declarators_height, declarator_height, behind_height, params_height, init_of_height, init_height, inits_height}
 use Rattle.c_syntax.specs.Shaped.{Standing, in_params, name_fits, may_be_open, is_there, may_begin, AllSpecs, ShapedDecls, ShapedDecl, ShapedDeclarators, ShapedDeclarator, ShapedBehind, ShapedInitOf, ShapedParams, ShapedParamList, ShapedParam, ShapedInit, ShapedInits}
-use Rattle.c_grammar.specs.Look.{got, Finds, after, after_head, after_key, after_key_head, after_probe, after_probe_head, a_word, word_head, infix_oper, bracket, open_paren, no_sign, sign_head, sign, no_spec, spec_of_head, spec_head, is_spec}
+use Rattle.c_grammar.specs.Look.{got, Finds, after, after_head, after_key, after_key_head, after_probe, after_probe_head, a_word, word_head}
+use Rattle.c_grammar.specs.Starts.{infix_oper, bracket, open_paren, no_sign, sign_head, sign, no_spec, spec_of_head, spec_head, is_spec}
 use Rattle.c_grammar.specs.Reader.{closing, void_ahead, unless_closed, unless_last, further, listed_end, reads_decls, reads_declarators, reads_declarator, reads_params, reads_init, reads_inits, reads_param, reads_parameters, reads_decl}
 use Rattle.c_grammar.proofs.Looking.{apart, after_is, after_of, after_key_is, after_key_of}
-use Rattle.c_grammar.proofs.DeclSteps.{some_found, behind, behind_arrays, behind_params, ending, ending_plain, ending_init, declarator_found, declarators_end, declarators_on, declaring_found, decl_plain, decl_found, decls_end, decls_on, param_found, params_stop, params_on, param_list_found, params_empty, params_void, params_listed, init_one, init_listed, list_found, listed_comma, listed_plain, inits_end, inits_on}
+use Rattle.c_grammar.proofs.DeclSteps.{behind, behind_arrays, behind_params, ending, ending_plain, ending_init, declarator_found, declarators_end, declarators_on, declaring_found, decl_plain, decl_found, decls_end, decls_on, param_found, params_stop, params_on, param_list_found, params_empty, params_void, params_listed, init_one, init_listed, list_found, listed_comma, listed_plain, inits_end, inits_on}
+use Rattle.c_grammar.proofs.TypeSteps.{some_found}
 use Rattle.c_grammar.proofs.CompleteLooking.{StopsAt, stops_none, stops_by, none_if, no_mark, node_begins, no_comma}
 use Rattle.c_grammar.proofs.CompleteExpr.{CompleteNode, listed_node}
 use Rattle.c_grammar.proofs.CompleteDecl.{CompleteLengths, CompleteSpecs, CompleteDecls, stops_no_mark, no_equal, spec_no_mark, through_stars, through_lengths, through_name, spec_begins, specs_begin, all_specs, stars_found, named_found}

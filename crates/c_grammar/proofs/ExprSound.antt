@@ -14,9 +14,11 @@ use Rattle.c_syntax.specs.Shape.{bare, Leaf, number, char, str, name, Prefix, un
 use Rattle.c_syntax.specs.Grammar.{leaf_kind, prefix_kind, probing_word, node_form, nodes_form, led_nodes_form, type_form, expr_form}
 use Rattle.c_syntax.specs.Levels.{height, nodes_height, type_height, chain, cases_chain, cases_height}
 use Rattle.c_syntax.specs.Shaped.{level, right_least, prefix_least, probe_least, Shaped, ShapedNodes, ShapedType, ShapedProbe}
-use Rattle.c_grammar.specs.Look.{Got, got, then_go, go_after, either_way, where_true, if_so, after, expect, a_number, a_word, Oper, infix_oper, question, bracket, access, step, open_paren, Sign, a_sign, no_sign, sign, oper_level, oper_least, Start, at_leaf, at_prefix, at_paren, at_simple, at_select, no_start, start, is_spec, spec_head, type_if, type_in, type_ahead}
-use Rattle.c_grammar.specs.Reader.{place_of, most_probes, Below, onto, one_more, args, leaf_at, call_at, calling, leaf_or_call, prefix_at, size_at, paren_at, cast_at, in_type, sizing, casting, casting_from, type_behind, numbered, probe_at, probing, simple_from, selected, select_from, front, two_on, choose_on, choose_from, index_on, field_on, grow, takes, next}
-use Rattle.c_grammar.proofs.Looking.{got_eq, not_got, went, opened, passed, both, after_is, expect_is, closed_by, number_is, word_is, oper_mark, sign_is, start_is}
+use Rattle.c_grammar.specs.Look.{Got, got, then_go, go_after, either_way, where_true, if_so, after, expect, a_number, a_word}
+use Rattle.c_grammar.specs.Starts.{Oper, infix_oper, question, bracket, access, step, open_paren, Sign, a_sign, no_sign, sign, oper_level, oper_least, Start, at_leaf, at_prefix, at_paren, at_simple, at_select, no_start, start, is_spec, spec_head, type_if, type_in, type_ahead}
+use Rattle.c_grammar.specs.ExprReader.{place_of, most_probes, Below, onto, one_more, args, leaf_at, call_at, calling, leaf_or_call, prefix_at, size_at, paren_at, cast_at, in_type, sizing, casting, casting_from, type_behind, numbered, probe_at, probing, simple_from, selected, select_from, front, two_on, choose_on, choose_from, index_on, field_on, grow, takes, next}
+use Rattle.c_grammar.proofs.Looking.{got_eq, not_got, went, opened, passed, both, after_is, expect_is, closed_by, number_is, word_is}
+use Rattle.c_grammar.proofs.Starting.{oper_mark, sign_is, start_is}
 
 -- a part that was read: it is written at the front of ts, before rest, it is allowed, and its h levels have d above them
 pub record Fits (f : Form) (S : Type 0) (h d : ℕ) (ts rest : List Token) : Type 0 where

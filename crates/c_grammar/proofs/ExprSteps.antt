@@ -12,8 +12,10 @@ use Rattle.c_syntax.specs.Forms.{place}
 use Rattle.c_syntax.specs.Shape.{bare, number, char, str, name, Step, Prefix, size_of, Infix, Access, Probing, NodeShape, node, leaf, paren, call, prefix, size_of_type, cast, suffix, two, choose, probe, index, field, behind, ProbeShape, simple, select, NodeShapes, no_nodes, more_nodes, TypeShape}
 use Rattle.c_syntax.specs.Levels.{height, chain, cases_chain}
 use Rattle.c_syntax.specs.Shaped.{right_least, prefix_least, probe_least, level}
-use Rattle.c_grammar.specs.Look.{Got, got, then_go, go_after, either_way, where_true, if_so, Finds, after, wanted, expect, a_number, a_word, Oper, infix_oper, question, bracket, access, step, open_paren, Sign, a_sign, no_sign, sign, Start, at_leaf, at_prefix, at_paren, at_simple, at_select, no_start, start, type_ahead}
-use Rattle.c_grammar.specs.Reader.{place_of, most_probes, Below, onto, one_more, args, leaf_at, call_at, calling, prefix_at, size_at, paren_at, cast_at, in_type, sizing, casting, casting_from, type_behind, numbered, probe_at, probing, simple_from, selected, select_from, front, two_on, choose_on, choose_from, index_on, field_on, grow, takes, next, reads, climbs, reads_led, reads_type, below, fronts}
+use Rattle.c_grammar.specs.Look.{Got, got, then_go, go_after, either_way, where_true, if_so, Finds, after, wanted, expect, a_number, a_word}
+use Rattle.c_grammar.specs.Starts.{Oper, infix_oper, question, bracket, access, step, open_paren, Sign, a_sign, no_sign, sign, Start, at_leaf, at_prefix, at_paren, at_simple, at_select, no_start, start, type_ahead}
+use Rattle.c_grammar.specs.Reader.{reads, climbs, reads_led, reads_type, below, fronts}
+use Rattle.c_grammar.specs.ExprReader.{place_of, most_probes, Below, onto, one_more, args, leaf_at, call_at, calling, prefix_at, size_at, paren_at, cast_at, in_type, sizing, casting, casting_from, type_behind, numbered, probe_at, probing, simple_from, selected, select_from, front, two_on, choose_on, choose_from, index_on, field_on, grow, takes, next}
 use Rattle.c_grammar.proofs.Looking.{find_from}
 
 -- TESTS

@@ -1,8 +1,11 @@
 pub mod Looking
+pub mod Starting
 pub mod ExprSound
+pub mod TypeSound
 pub mod DeclSound
 pub mod Sound
 pub mod ExprSteps
+pub mod TypeSteps
 pub mod DeclSteps
 pub mod Leading
 pub mod ListSteps

@@ -23,12 +23,15 @@ use Rattle.c_syntax.specs.View.{node_shape, maybe_node, spec_shape, decl_shape, 
 use Rattle.c_syntax.specs.Levels.{height, maybe_height, nodes_height, lengths_height, specs_height, spec_height, enumers_height, decls_height, decl_height, declarators_height, declarator_height, inits_height, init_height}
 use Rattle.c_syntax.specs.Levels.{chain, nodes_chain}
 use Rattle.c_syntax.specs.Shaped.{Standing}
-use Rattle.c_grammar.specs.Look.{Got, got, then_go, Finds, after, after_key, spec_head, is_spec, a_spec_word, a_struct, an_enum, no_spec, a_word}
-use Rattle.c_grammar.specs.Reader.{reads, reads_led, reads_lengths, reads_stars, reads_consts, reads_specs, reads_enumers, reads_decls, reads_decl, reads_declarators, reads_declarator, reads_params, reads_param, reads_init, reads_inits, further, plain_name}
+use Rattle.c_grammar.specs.Look.{Got, got, then_go, Finds, after, after_key, a_word}
+use Rattle.c_grammar.specs.Starts.{spec_head, is_spec, a_spec_word, a_struct, an_enum, no_spec}
+use Rattle.c_grammar.specs.Reader.{reads, reads_led, reads_lengths, reads_specs, reads_enumers, reads_decls, reads_decl, reads_declarators, reads_declarator, reads_params, reads_param, reads_init, reads_inits, further}
+use Rattle.c_grammar.specs.ExprReader.{reads_stars, reads_consts, plain_name}
 use Rattle.c_grammar.specs.Leads.{onto_got, Leads, node_cons, length_cons, type_length_cons, star_cons, spec_cons, enumer_cons, decl_cons, declarator_cons, param_cons, init_cons}
 use Rattle.c_grammar.proofs.Leading.{Builds, leads_more, leads_end, leads_fail}
 use Rattle.c_grammar.proofs.ExprSteps.{listing, listing_found, led_on, led_end, led_fails}
-use Rattle.c_grammar.proofs.DeclSteps.{consts_on, consts_end, params_of, inits_of, one_length, lengths_on, lengths_end, lengths_fail, lengths_deep, stars_on, stars_end, stars_deep, structure, enumeration, specs_word, specs_struct, specs_struct_fails, specs_enum, specs_enum_fails, specs_end, value, enumerators, enumer_on, enumer_nameless, enumer_fails, enumers_on, enumers_end, decls_on, decls_end, decls_fail, declarators_on, declarators_end, declarators_fail, param_list_found, params_on, params_stop, params_fail, list_found, inits_on, inits_end, inits_fail}
+use Rattle.c_grammar.proofs.DeclSteps.{params_of, inits_of, decls_on, decls_end, decls_fail, declarators_on, declarators_end, declarators_fail, param_list_found, params_on, params_stop, params_fail, list_found, inits_on, inits_end, inits_fail}
+use Rattle.c_grammar.proofs.TypeSteps.{consts_on, consts_end, one_length, lengths_on, lengths_end, lengths_fail, lengths_deep, stars_on, stars_end, stars_deep, structure, enumeration, specs_word, specs_struct, specs_struct_fails, specs_enum, specs_enum_fails, specs_end, value, enumerators, enumer_on, enumer_nameless, enumer_fails, enumers_on, enumers_end}
 
 -- HEIGHTS
 

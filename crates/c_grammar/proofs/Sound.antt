@@ -11,11 +11,14 @@ use Rattle.c_syntax.specs.Shape.{NodeShape, NodeShapes, no_nodes, more_nodes, In
 use Rattle.c_syntax.specs.Grammar.{led_inits_form, inits_form, comma_form}
 use Rattle.c_syntax.specs.Levels.{height, nodes_height, init_height, inits_height}
 use Rattle.c_syntax.specs.Shaped.{level, Standing, in_members, in_params, may_be_open, ShapedInit, ShapedInits}
-use Rattle.c_grammar.specs.Look.{Got, got, then_go, either_way, where_true, after, expect, sign, start, is_spec, spec_head}
-use Rattle.c_grammar.specs.Reader.{onto, one_more, front, init_got, init_onto, init_more, listed_end, void_ahead, declarator_name, unless_closed, unless_last, further, reads, climbs, reads_led, reads_lengths, reads_specs, reads_enumers, reads_decls, reads_declarators, reads_declarator, reads_params, reads_init, reads_inits, reads_some, reads_type, below, lists, reads_param, reads_parameters, behinds, reads_decl, reads_stars}
+use Rattle.c_grammar.specs.Look.{Got, got, then_go, either_way, where_true, after, expect}
+use Rattle.c_grammar.specs.Starts.{sign, start, is_spec, spec_head}
+use Rattle.c_grammar.specs.Reader.{init_got, init_onto, init_more, listed_end, void_ahead, declarator_name, unless_closed, unless_last, further, reads, climbs, reads_led, reads_lengths, reads_specs, reads_enumers, reads_decls, reads_declarators, reads_declarator, reads_params, reads_init, reads_inits, reads_some, reads_type, below, lists, reads_param, reads_parameters, behinds, reads_decl}
+use Rattle.c_grammar.specs.ExprReader.{onto, one_more, front, reads_stars}
 use Rattle.c_grammar.proofs.Looking.{got_eq, not_got, went, passed, after_is, expect_is, closed_by}
 use Rattle.c_grammar.proofs.ExprSound.{Fits, NodeFits, LedFits, TypeFits, FrontFits, moved, BelowFits, front_sound, next_sound}
-use Rattle.c_grammar.proofs.DeclSound.{LengthsFits, SpecsSay, EnumersFits, DeclsFits, DeclFits, DeclaratorsFits, DeclaratorFits, ParamsFits, ParamFits, ParametersFits, InitFits, InitsFits, SomeFits, Sound, lengths_sound, stars_sound, type_name_sound, ListsFit, enumers_sound, specs_sound, some_sound, BehindFits, declarator_sound, declarators_sound, decl_sound, decls_sound, param_sound, params_sound, parameters_sound}
+use Rattle.c_grammar.proofs.DeclSound.{BehindFits, declarator_sound, declarators_sound, decl_sound, decls_sound, param_sound, params_sound, parameters_sound}
+use Rattle.c_grammar.proofs.TypeSound.{LengthsFits, SpecsSay, EnumersFits, DeclsFits, DeclFits, DeclaratorsFits, DeclaratorFits, ParamsFits, ParamFits, ParametersFits, InitFits, InitsFits, SomeFits, Sound, lengths_sound, stars_sound, type_name_sound, ListsFit, enumers_sound, specs_sound, some_sound}
 
 -- INITIALISERS
 

@@ -22,7 +22,7 @@ use Rattle.c_grammar.specs.declared.look.Start.TheVariants as starts
 use Rattle.c_syntax.specs.declared.token.Key.{Key}
 use Rattle.c_grammar.specs.declared.look.SpecStart.{SpecStart}
 use Rattle.c_grammar.specs.declared.look.SpecStart.TheVariants as spec_starts
-use Rattle.c_grammar.specs.Look.{SpecHead, a_spec_word, a_struct, an_enum, Oper, infix_oper, question, bracket, access, step, open_paren, Start, at_leaf, at_prefix, at_paren, at_simple, at_select}
+use Rattle.c_grammar.specs.Starts.{SpecHead, a_spec_word, a_struct, an_enum, Oper, infix_oper, question, bracket, access, step, open_paren, Start, at_leaf, at_prefix, at_paren, at_simple, at_select}
 
 abbrev pub step_of : Step → shape.Step
 step_of steps.Up = shape.up

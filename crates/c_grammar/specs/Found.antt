@@ -6,9 +6,11 @@ use Rattle.c_syntax.specs.declared.tree.Node.{Node}
 use Rattle.c_syntax.specs.Shape.{bare, NodeShape, node, probe, ProbeShape, NodeShapes, SpecShape, word, DeclShapes, DeclaratorShape}
 use Rattle.c_syntax.specs.Levels.{height, nodes_height, cases_height, chain, nodes_chain, cases_chain, maybe_height, declarators_height}
 use Rattle.c_grammar.specs.declared.size.Size.{Size}
-use Rattle.c_grammar.specs.Look.{Got, got, Finds, a_word, is_spec, spec_head, where_true}
+use Rattle.c_grammar.specs.Look.{Got, got, Finds, a_word, where_true}
+use Rattle.c_grammar.specs.Starts.{is_spec, spec_head}
 use Rattle.c_grammar.specs.Parts.{LedFrom, constants, probed, closed, structure, enumeration, fields, value}
-use Rattle.c_grammar.specs.Reader.{plain_name, declarator_name, behinds, reads_declarators}
+use Rattle.c_grammar.specs.Reader.{declarator_name, behinds, reads_declarators}
+use Rattle.c_grammar.specs.ExprReader.{plain_name}
 use Rattle.c_grammar.specs.declared.look.SpecStart.{SpecStart}
 use Rattle.c_grammar.specs.declared.look.SpecStart.TheVariants as spec_starts
 use Rattle.c_syntax.specs.declared.text.Text.{Text}

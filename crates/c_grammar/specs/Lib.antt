@@ -1,4 +1,6 @@
 pub mod Look
+pub mod Starts
+pub mod ExprReader
 pub mod Reader
 pub mod CodeView
 pub mod Leads

@@ -11,8 +11,10 @@ use Rattle.c_syntax.specs.declared.tree.Named.{Named}
 use Rattle.c_syntax.specs.declared.tree.Node.{Node}
 use Rattle.c_syntax.specs.Shape.{NodeShape, ProbeShape, NodeShapes, MaybeNode, TypeShape, SpecShapes, SpecShape, EnumerShapes, DeclShape, DeclShapes, DeclaratorShape, DeclaratorShapes, DeclFormShape, InitShapes}
 use Rattle.c_syntax.specs.Shaped.{Standing, in_members}
-use Rattle.c_grammar.specs.Look.{Got, got, then_go, expect, Oper, Finds}
-use Rattle.c_grammar.specs.Reader.{one_more, args, probe_at, grow, length_from, tag, struct_tag, enum_tag, enumer_from, value_from, behind_from, declarator_init, decl_first, decl_more, init_more, reads, reads_led, reads_type, reads_decls, reads_enumers, reads_declarators, reads_param, reads_params, reads_init, reads_inits, below, lists, behinds}
+use Rattle.c_grammar.specs.Look.{Got, got, then_go, expect, Finds}
+use Rattle.c_grammar.specs.Starts.{Oper}
+use Rattle.c_grammar.specs.Reader.{behind_from, declarator_init, decl_first, decl_more, init_more, reads, reads_led, reads_type, reads_decls, reads_enumers, reads_declarators, reads_param, reads_params, reads_init, reads_inits, below, lists, behinds}
+use Rattle.c_grammar.specs.ExprReader.{one_more, args, probe_at, grow, length_from, tag, struct_tag, enum_tag, enumer_from, value_from}
 use Rattle.c_grammar.specs.Leads.{Leads, node_cons}
 
 -- a reader and a mark behind what it reads

@@ -4,7 +4,7 @@ ghost use Rattle.std.specs.Prelude.{◌≡◌, ◌≤◌, length, IfOk, IsErrOf}
 ghost use Rattle.c_syntax.specs.declared.tree.Enumer.{out-Enumer};
 ghost use Rattle.c_syntax.specs.Shape.{type_name, struct, enum, no_members, members, no_rows, rows, decl, no_declarators, declarator, more_declarators, no_init, one_init, arrays, function, params, one, listed};
 ghost use Rattle.c_syntax.specs.View.{node_shape, type_shape, type_lengths_list, spec_shape, spec_list, enumer_list, decl_shape, decl_list, declarator_shape, declarator_list, decl_form_shape, lengths_list, params_shape, param_shape, param_list, init_shape, init_list};
-ghost use Rattle.c_grammar.specs.Reader.{plain_name};
+ghost use Rattle.c_grammar.specs.ExprReader.{plain_name};
 
 use crate::look::Stop;
 use crate::nodes::copied;

@@ -4,8 +4,8 @@ ghost use Rattle.std.specs.Prelude.{◌≡◌, ℕ, ◌+◌, ◌<◌, ◌≤◌}
 ghost use Rattle.c_syntax.specs.View.{node_shape, node_list, probe_shape};
 ghost use Rattle.c_syntax.specs.Levels.{chain, nodes_chain, cases_chain};
 ghost use Rattle.c_syntax.specs.Shaped.{level, binary_level, infix_level, left_least, right_least, prefix_least, probe_least};
-ghost use Rattle.c_grammar.specs.Look.{oper_level, oper_least};
-ghost use Rattle.c_grammar.specs.Reader.{takes};
+ghost use Rattle.c_grammar.specs.Starts.{oper_level, oper_least};
+ghost use Rattle.c_grammar.specs.ExprReader.{takes};
 ghost use Rattle.c_grammar.specs.CodeView.{prefix_of, infix_of, oper_of, probing_of};
 
 use crate::look::{Infix, Operator, Prefix, Probing};

@@ -4,8 +4,10 @@ ghost use Rattle.std.specs.Prelude.{◌≡◌, ◌<◌, length, Some, None, Bool
 ghost use Rattle.c_base.specs.declared.place.Pos.{Pos};
 ghost use Rattle.c_syntax.specs.Forms.{place};
 ghost use Rattle.c_syntax.specs.Shape.{InitShapes, listed};
-ghost use Rattle.c_grammar.specs.Look.{after, after_key, after_probe, a_number, a_string, a_word, mark_oper, an_oper, no_oper, sign, a_sign, no_sign, start, no_start, spec_head, no_spec, is_spec, type_ahead, got};
-ghost use Rattle.c_grammar.specs.Reader.{numbered, further, void_ahead, type_behind, listed_end};
+ghost use Rattle.c_grammar.specs.Look.{after, after_key, after_probe, a_number, a_string, a_word, got};
+ghost use Rattle.c_grammar.specs.Starts.{mark_oper, an_oper, no_oper, sign, a_sign, no_sign, start, no_start, spec_head, no_spec, is_spec, type_ahead};
+ghost use Rattle.c_grammar.specs.Reader.{further, void_ahead, listed_end};
+ghost use Rattle.c_grammar.specs.ExprReader.{numbered, type_behind};
 ghost use Rattle.c_grammar.specs.CodeView.{oper_of, start_of, spec_start_of, prefix_of};
 
 use c_base::place::Pos;

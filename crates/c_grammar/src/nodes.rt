@@ -3,7 +3,7 @@
 ghost use Rattle.std.specs.Prelude.{◌≡◌, ◌≤◌, List, [], ◌∷◌, ◌++◌, Some, None, IfOk, OnOk, IsErrOf};
 ghost use Rattle.c_syntax.specs.Shape.{bare, number, char, str, name, node, leaf, paren, call, prefix, size_of_type, cast, suffix, two, choose, probe, index, field, behind, simple, select};
 ghost use Rattle.c_syntax.specs.View.{node_shape, node_list, expr_shape, type_shape, probe_shape};
-ghost use Rattle.c_grammar.specs.Reader.{place_of};
+ghost use Rattle.c_grammar.specs.ExprReader.{place_of};
 ghost use Rattle.c_grammar.specs.CodeView.{step_of, prefix_of, infix_of, access_of, probing_of};
 
 use crate::look::{Access, Infix, Prefix, Probing, Step, Stop};

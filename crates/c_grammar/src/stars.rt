@@ -2,7 +2,7 @@
 
 ghost use Rattle.std.specs.Prelude.{◌≡◌, ℕ, ◌+◌, ◌<◌, ◌≤◌, List, [], ◌∷◌, ◌++◌, length, Some, None, IfOk, IsErrOf};
 ghost use Rattle.c_grammar.specs.Look.{Finds, Got, got};
-ghost use Rattle.c_grammar.specs.Reader.{reads_consts, reads_stars, tag, maybe_named};
+ghost use Rattle.c_grammar.specs.ExprReader.{reads_consts, reads_stars, tag, maybe_named};
 
 use crate::look::{
     MOST_LEVELS, Stop, find_numbered, find_word, first_place, past, past_key, past_probe,
@@ -59,7 +59,7 @@ pub fn read_stars<'a>(
 }
 
 /// The word at the front, where there is one, as a name without a probe.
-#[tactic(auto, using(crate::proofs::DeclSteps::tag_some, crate::proofs::DeclSteps::tag_none))]
+#[tactic(auto, using(crate::proofs::TypeSteps::tag_some, crate::proofs::TypeSteps::tag_none))]
 pub fn read_tag<'a>(alloc: Global, input: &'a [Token]) -> Result<(Option<Named>, &'a [Token]), Stop>
     ensures found { IfOk result (λ p. tag input.now ≡ Some (p.0, p.1.now)) }
     ensures no_longer { IfOk result (λ p. length p.1.now ≤ length input.now) }
@@ -82,7 +82,7 @@ pub fn read_tag<'a>(alloc: Global, input: &'a [Token]) -> Result<(Option<Named>,
 }
 
 /// The declared name at the front, where there is one, with the probe round it.
-#[tactic(auto, using(crate::proofs::DeclSteps::named_plain, crate::proofs::DeclSteps::named_probe, crate::proofs::DeclSteps::named_unnumbered, crate::proofs::DeclSteps::named_alone, crate::proofs::DeclSteps::named_nameless, crate::proofs::DeclSteps::named_open))]
+#[tactic(auto, using(crate::proofs::TypeSteps::named_plain, crate::proofs::TypeSteps::named_probe, crate::proofs::TypeSteps::named_unnumbered, crate::proofs::TypeSteps::named_alone, crate::proofs::TypeSteps::named_nameless, crate::proofs::TypeSteps::named_open))]
 pub fn read_named<'a>(
     alloc: Global,
     input: &'a [Token],

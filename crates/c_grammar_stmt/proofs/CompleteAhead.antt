@@ -12,8 +12,9 @@ use Rattle.c_syntax.specs.Forms.{a_token, head, Written}
 use Rattle.c_syntax.specs.Shape.{name, size_of, block, test, used, def, NodeShape, node, leaf, paren, call, prefix, size_of_type, cast, suffix, two, choose, probe, simple, select, DeclaratorShape, declarator, DeclaratorShapes, no_declarators, more_declarators, arrays, function}
 use Rattle.c_syntax.specs.Grammar.{node_form, declarator_form, led_declarators_form}
 use Rattle.c_syntax.specs.Shaped.{in_names, ShapedDeclarator, IsFunction}
-use Rattle.c_grammar.specs.Look.{then_go, go_after, after, after_head, after_key, after_probe, after_probe_head, Start, at_leaf, at_prefix, at_paren, at_simple, at_select, no_start, start_mark, start_key, start_head, start, no_spec, spec_of_head, spec_head}
-use Rattle.c_grammar.specs.Reader.{numbered}
+use Rattle.c_grammar.specs.Look.{then_go, go_after, after, after_head, after_key, after_probe, after_probe_head}
+use Rattle.c_grammar.specs.Starts.{Start, at_leaf, at_prefix, at_paren, at_simple, at_select, no_start, start_mark, start_key, start_head, start, no_spec, spec_of_head, spec_head}
+use Rattle.c_grammar.specs.ExprReader.{numbered}
 use Rattle.c_grammar_stmt.specs.StmtReader.{colon_behind, mark_closed, mark_ahead, is_function, body_ahead}
 use Rattle.c_grammar.proofs.Looking.{after_probe_is, after_probe_of}
 use Rattle.c_grammar.proofs.CompleteLooking.{none_if, no_mark, no_key, no_spec_there, leaf_start, prefix_start, paren_start, simple_start, select_start, node_begins}

@@ -13,8 +13,9 @@ use Rattle.c_syntax.specs.Shape.{NodeShape, MaybeNode, no_node, one_node, DeclSh
 use Rattle.c_syntax.specs.Grammar.{node_form, maybe_node_form, marks_form, labels_form, stmt_form, body_form, compound_form, items_form, external_form}
 use Rattle.c_syntax.specs.Levels.{height, maybe_height, labels_height, item_height, stmt_height, form_height, compound_height, items_height, external_height}
 use Rattle.c_syntax.specs.Shaped.{in_names, Shaped, ShapedMaybe, ShapedLabels, ShapedStmt, ShapedForm, ShapedCompound, ShapedItems, ShapedExternal}
-use Rattle.c_grammar.specs.Look.{got, then_go, go_after, Finds, after, after_head, after_key, after_key_head, after_probe, after_probe_head, no_sign, sign_head, no_start, start_mark, no_spec, spec_of_head, spec_head}
-use Rattle.c_grammar.specs.Reader.{numbered}
+use Rattle.c_grammar.specs.Look.{got, then_go, go_after, Finds, after, after_head, after_key, after_key_head, after_probe, after_probe_head}
+use Rattle.c_grammar.specs.Starts.{no_sign, sign_head, no_start, start_mark, no_spec, spec_of_head, spec_head}
+use Rattle.c_grammar.specs.ExprReader.{numbered}
 use Rattle.c_grammar_stmt.specs.StmtReader.{mark_closed, mark_ahead, reads_marks, reads_labels, depth_behind, reads_stmt, reads_items, reads_compound, reads_form, is_function, body_ahead, reads_external}
 use Rattle.c_grammar_stmt.specs.StmtParts.{parens, optional}
 use Rattle.c_grammar.proofs.Looking.{after_of, after_key_of, after_probe_of}

@@ -16,12 +16,14 @@ use Rattle.c_syntax.specs.Grammar.{node_form, maybe_node_form, marks_form, label
 use Rattle.c_syntax.specs.Levels.{height, maybe_height, specs_height, decl_height, declarator_height, external_height, decls_height, labels_height, item_height, stmt_height, form_height, compound_height, items_height}
 use Rattle.c_syntax.specs.Shaped.{in_names, Shaped, ShapedMaybe, Closed, ClosedForm, ShapedLabels, ShapedStmt, ShapedForm, ShapedCompound, ShapedItems, ShapedExternal, IsFunction}
 use Rattle.c_grammar.specs.Look.{Got, got, then_go, go_after, either_way, if_so, after, after_key, after_probe, expect}
-use Rattle.c_grammar.specs.Reader.{numbered, one_got, decl_first, reads, reads_decls, reads_specs, reads_some, reads_declarator, reads_declarators}
+use Rattle.c_grammar.specs.Reader.{decl_first, reads, reads_decls, reads_specs, reads_some, reads_declarator, reads_declarators}
+use Rattle.c_grammar.specs.ExprReader.{numbered, one_got}
 use Rattle.c_grammar_stmt.specs.StmtReader.{colon_behind, mark_closed, mark_ahead, mark_onto, marks_from, reads_marks, compound_got, either_made, if_then, if_from, while_made, while_from, do_end, do_from, for_made, for_third, for_second, for_first, switch_made, switch_from, return_got, simply_got, stmt_made, stmt_body, label_onto, case_more, reads_labels, depth_behind, item_onto, item_more, item_stmt, compound_end, compound_items, reads_stmt, reads_items, reads_compound, inside, reads_form, is_function, body_ahead, defined_got, declared_got, external_body, external_first, external_specs, reads_external}
 use Rattle.c_grammar_stmt.specs.StmtParts.{parens, optional, if_parts, while_parts, do_parts, for_parts, switch_parts, return_parts, simple_parts, compound_parts}
 use Rattle.c_grammar.proofs.Looking.{got_eq, not_got, went, opened, passed, both, apart, after_is, after_key_is, after_probe_is, expect_is, closed_by}
 use Rattle.c_grammar.proofs.ExprSound.{Fits, moved, numbered_is}
-use Rattle.c_grammar.proofs.DeclSound.{Sound, SomeFits, DeclaratorFits, some_sound, first_sound}
+use Rattle.c_grammar.proofs.DeclSound.{first_sound}
+use Rattle.c_grammar.proofs.TypeSound.{Sound, SomeFits, DeclaratorFits, some_sound}
 use Rattle.c_grammar.proofs.Sound.{good}
 use Rattle.c_grammar_stmt.proofs.StmtSteps.{from_return, from_continue, from_break, from_switch, from_for, from_do, from_while, from_if}
 

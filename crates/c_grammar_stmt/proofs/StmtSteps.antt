@@ -19,7 +19,8 @@ use Rattle.c_syntax.specs.Shape.{NodeShape, MaybeNode, no_node, one_node, SpecSh
 use Rattle.c_syntax.specs.Shaped.{in_names}
 use Rattle.c_syntax.specs.View.{label_shape, stmt_shape, item_list, external_shape}
 use Rattle.c_grammar.specs.Look.{Got, got, then_go, go_after, either_way, if_so, Finds, after, after_head, after_key, after_key_head, after_probe, wanted, expect, a_string}
-use Rattle.c_grammar.specs.Reader.{numbered, one_got, reads, reads_decls, reads_declarator, reads_some}
+use Rattle.c_grammar.specs.Reader.{reads, reads_decls, reads_declarator, reads_some}
+use Rattle.c_grammar.specs.ExprReader.{numbered, one_got}
 use Rattle.c_grammar.specs.Parts.{closed, declaring}
 use Rattle.c_grammar.specs.Leads.{Leads}
 use Rattle.c_grammar_stmt.specs.StmtParts.{mark_cons, label_cons, item_cons, ReadExternals}

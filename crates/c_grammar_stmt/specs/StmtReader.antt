@@ -13,7 +13,8 @@ use Rattle.c_syntax.specs.Forms.{place, last_place}
 use Rattle.c_syntax.specs.Shape.{NodeShape, MaybeNode, no_node, SpecShapes, DeclShape, decl, DeclShapes, DeclaratorShape, declarator, no_declarators, arrays, function, LabelShape, case, default, StmtShape, stmt, FormShape, compound, simply, when, either, while, do_while, for, switch, break, continue, return, CompoundShape, braces, ItemShapes, no_items, more_items, ExternalShape, defined, declared, UnitShape}
 use Rattle.c_syntax.specs.Shaped.{in_names}
 use Rattle.c_grammar.specs.Look.{Got, got, then_go, go_after, either_way, where_true, if_so, after, after_key, after_probe, expect, a_string}
-use Rattle.c_grammar.specs.Reader.{numbered, one_got, reads, reads_decls, reads_declarator, reads_declarators, reads_some, decl_first}
+use Rattle.c_grammar.specs.Reader.{reads, reads_decls, reads_declarator, reads_declarators, reads_some, decl_first}
+use Rattle.c_grammar.specs.ExprReader.{numbered, one_got}
 
 -- BLOCK PROBES
 

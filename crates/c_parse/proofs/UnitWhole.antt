@@ -16,7 +16,8 @@ use Rattle.c_syntax.specs.Grammar.{line_form, maybe_line_form, external_form, ex
 use Rattle.c_syntax.specs.Levels.{external_height, externals_height}
 use Rattle.c_syntax.specs.Shaped.{ShapedExternal, ShapedExternals, ShapedUnit}
 use Rattle.c_syntax.specs.View.{external_shape}
-use Rattle.c_grammar.specs.Look.{got, then_go, either_way, Finds, after, after_probe, string_head, a_string, is_spec, spec_of_head, spec_head}
+use Rattle.c_grammar.specs.Look.{got, then_go, either_way, Finds, after, after_probe, string_head, a_string}
+use Rattle.c_grammar.specs.Starts.{is_spec, spec_of_head, spec_head}
 use Rattle.c_grammar_stmt.specs.StmtReader.{line_end, line_closed, line_from, line_got, reads_line, external_onto, external_more, reads_external, reads_externals, unit_at}
 use Rattle.c_grammar_stmt.specs.StmtParts.{ReadExternals, ExternalsFrom, Front, BehindLongest, SyntaxAt, NoUnit}
 use Rattle.c_grammar.proofs.Looking.{got_eq, not_got, went, opened, same_answer, after_is, after_of, after_probe_is, after_probe_of, expect_is, string_is}

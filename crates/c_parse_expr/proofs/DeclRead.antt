@@ -16,8 +16,10 @@ use Rattle.c_syntax.specs.Shaped.{Standing, in_params, name_fits, may_be_open, i
 use Rattle.c_syntax.specs.View.{decl_shape, decl_list, declarator_shape, declarator_list, param_shape, param_list, init_shape, init_list}
 use Rattle.c_syntax.specs.Levels.{lengths_height, specs_height, decls_height, decl_height, declarators_height, declarator_height, behind_height, params_height, init_height, inits_height}
 use Rattle.c_grammar.specs.declared.size.Size.{Size}
-use Rattle.c_grammar.specs.Look.{Got, got, then_go, where_true, Finds, after, is_spec, spec_head}
-use Rattle.c_grammar.specs.Reader.{maybe_named, declarator_behind, declarator_init, declarator_name, void_ahead, listed_end, further, behinds, reads, reads_lengths, reads_stars, reads_specs, reads_some, reads_decl, reads_decls, reads_declarator, reads_declarators, reads_param, reads_parameters, reads_init}
+use Rattle.c_grammar.specs.Look.{Got, got, then_go, where_true, Finds, after}
+use Rattle.c_grammar.specs.Starts.{is_spec, spec_head}
+use Rattle.c_grammar.specs.Reader.{declarator_behind, declarator_init, declarator_name, void_ahead, listed_end, further, behinds, reads, reads_lengths, reads_specs, reads_some, reads_decl, reads_decls, reads_declarator, reads_declarators, reads_param, reads_parameters, reads_init}
+use Rattle.c_grammar.specs.ExprReader.{maybe_named, reads_stars}
 use Rattle.c_grammar.specs.Parts.{behind, ending, declaring, params_of, inits_of}
 use Rattle.c_grammar.specs.Found.{NodeFound, Found, FurtherFound, named_behind}
 use Rattle.c_grammar.proofs.Looking.{find_from}

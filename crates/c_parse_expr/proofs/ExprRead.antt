@@ -13,8 +13,10 @@ use Rattle.c_syntax.specs.View.{node_shape, node_list}
 use Rattle.c_syntax.specs.Levels.{height, nodes_height, type_height, chain, nodes_chain, cases_height, cases_chain}
 use Rattle.c_syntax.specs.Shaped.{right_least, prefix_least, probe_least, level}
 use Rattle.c_grammar.specs.declared.size.Size.{Size}
-use Rattle.c_grammar.specs.Look.{Got, got, then_go, Finds, after, a_word, Oper, infix_oper, question, bracket, access, step, open_paren, Sign, a_sign, no_sign, sign, at_leaf, at_prefix, at_paren, at_simple, at_select, start, type_ahead}
-use Rattle.c_grammar.specs.Reader.{place_of, leaf_at, type_behind, numbered, takes, choose_on, choose_from, index_on, paren_at, below, reads_type, reads, climbs, reads_led, fronts}
+use Rattle.c_grammar.specs.Look.{Got, got, then_go, Finds, after, a_word}
+use Rattle.c_grammar.specs.Starts.{Oper, infix_oper, question, bracket, access, step, open_paren, Sign, a_sign, no_sign, sign, at_leaf, at_prefix, at_paren, at_simple, at_select, start, type_ahead}
+use Rattle.c_grammar.specs.Reader.{below, reads_type, reads, climbs, reads_led, fronts}
+use Rattle.c_grammar.specs.ExprReader.{place_of, leaf_at, type_behind, numbered, takes, choose_on, choose_from, index_on, paren_at}
 use Rattle.c_grammar.specs.Parts.{closed, grown, whole, arguments, typed, probed, constants, listing, LedFrom}
 use Rattle.c_grammar.specs.Found.{Measured, NodeFound, Found, AllMeasured, LedFound, LedFails, CasesMeasured, CasesFound, InsideFound, InsideFails}
 use Rattle.c_grammar.proofs.ExprSteps.{by_paren, front_select_open, then_found, then_fails, closed_found, closed_fails, closed_open, climb_on, climb_fails, climb_high, climb_end, climb_stop, read_on, read_fails, read_loose, read_deep, grow_infix, grow_infix_fails, grow_choose, grow_choose_fails, grow_choose_open, grow_choose_last, grow_index, grow_index_fails, grow_field, grow_field_fails, grow_step, grow_paren, arguments_none, arguments_some, arguments_fail, arguments_open, front_none, front_number, front_char, front_str, front_name, front_call, front_call_fails, front_prefix, front_prefix_fails, front_size, front_size_fails, front_paren, front_paren_fails, front_cast, front_cast_fails, front_cast_last, probed_found, probed_many, probed_fails, probed_open, front_simple, front_select}

@@ -19,13 +19,15 @@ use Rattle.c_grammar.specs.declared.size.Size.{Size}
 use Rattle.c_grammar.specs.declared.look.SpecStart.{SpecStart}
 use Rattle.c_grammar.specs.declared.look.SpecStart.TheVariants as spec_starts
 use Rattle.c_grammar.specs.CodeView.{spec_start_of}
-use Rattle.c_grammar.specs.Look.{Got, got, then_go, either_way, where_true, Finds, expect, after, a_word, no_spec, spec_head, is_spec}
-use Rattle.c_grammar.specs.Reader.{one_got, tag, plain_name, struct_made, struct_list, struct_tag, enum_made, enum_list, enum_tag, lists, reads, reads_lengths, reads_stars, reads_specs, reads_some, reads_type, reads_decls, reads_enumers}
+use Rattle.c_grammar.specs.Look.{Got, got, then_go, either_way, where_true, Finds, expect, after, a_word}
+use Rattle.c_grammar.specs.Starts.{no_spec, spec_head, is_spec}
+use Rattle.c_grammar.specs.Reader.{lists, reads, reads_lengths, reads_specs, reads_some, reads_type, reads_decls, reads_enumers}
+use Rattle.c_grammar.specs.ExprReader.{one_got, tag, plain_name, struct_made, struct_list, struct_tag, enum_made, enum_list, enum_tag, reads_stars}
 use Rattle.c_grammar.specs.Parts.{closed, one_length, structure, enumeration, fields, enumerators, value}
 use Rattle.c_grammar.specs.Found.{NodeFound, Found, spec_behind, braced_fields, EnumerFound}
 use Rattle.c_grammar.proofs.Looking.{got_eq}
 use Rattle.c_grammar.proofs.ExprSteps.{low_go, high_none, closed_found, closed_fails, closed_open}
-use Rattle.c_grammar.proofs.DeclSteps.{length_none, length_there, length_fails, length_open, type_found, type_stars_fail, type_lengths_fail, some_found, struct_plain, enum_plain, value_none, value_some}
+use Rattle.c_grammar.proofs.TypeSteps.{length_none, length_there, length_fails, length_open, type_found, type_stars_fail, type_lengths_fail, some_found, struct_plain, enum_plain, value_none, value_some}
 use Rattle.c_grammar.proofs.Leading.{leads_fail}
 use Rattle.c_grammar.proofs.ListSteps.{LengthsFrom, TypeLengthsFrom, SpecsFrom, EnumersFrom, lengths_done, type_lengths_done, lengths_now, type_lengths_now, specs_more_word, specs_more_struct, specs_more_enum, specs_done, specs_struct_failed, specs_enum_failed, specs_now, enumers_start, enumers_comma, enumers_more, enumers_done, enumers_now}
 use Rattle.c_grammar.proofs.CodeSteps.{lengths_next, type_lengths_next}

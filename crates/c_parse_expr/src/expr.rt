@@ -4,8 +4,10 @@ ghost use Rattle.std.specs.Prelude.{◌≡◌, ℕ, suc, ◌+◌, ◌<◌, ◌�
 ghost use Rattle.c_syntax.specs.Shape.{name};
 ghost use Rattle.c_syntax.specs.Levels.{height, cases_height, cases_chain, nodes_height, type_height};
 ghost use Rattle.c_syntax.specs.View.{node_shape, node_list, type_shape};
-ghost use Rattle.c_grammar.specs.Look.{Finds, infix_oper, question, bracket, access, step, sign, a_sign, start, at_leaf, at_prefix, at_paren, at_simple, at_select, type_ahead};
-ghost use Rattle.c_grammar.specs.Reader.{takes, reads, climbs, fronts};
+ghost use Rattle.c_grammar.specs.Look.{Finds};
+ghost use Rattle.c_grammar.specs.Starts.{infix_oper, question, bracket, access, step, sign, a_sign, start, at_leaf, at_prefix, at_paren, at_simple, at_select, type_ahead};
+ghost use Rattle.c_grammar.specs.Reader.{reads, climbs, fronts};
+ghost use Rattle.c_grammar.specs.ExprReader.{takes};
 ghost use Rattle.c_grammar.specs.Parts.{closed, grown, whole, arguments, typed, constants};
 ghost use Rattle.c_grammar.specs.Found.{Measured, NodeFound, Found, AllMeasured, LedFound, LedFails, CasesFound, InsideFound, InsideFails};
 ghost use Rattle.c_grammar.specs.CodeView.{oper_of, infix_of, access_of, step_of, prefix_of, probing_of};

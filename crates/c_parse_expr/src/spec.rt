@@ -53,7 +53,7 @@ fn read_given<'a>(
 /// A length of a declarator, which may be left out where it is `free`, and its closing bracket, one level below what
 /// holds the bracket.
 #[cycle(reading)]
-#[tactic(auto, using(crate::proofs::SpecRead::length_left_out, crate::proofs::SpecRead::length_given, crate::proofs::SpecRead::length_ungiven, c_grammar::proofs::DeclSteps::length_missing))]
+#[tactic(auto, using(crate::proofs::SpecRead::length_left_out, crate::proofs::SpecRead::length_given, crate::proofs::SpecRead::length_ungiven, c_grammar::proofs::TypeSteps::length_missing))]
 fn read_length<'a>(
     alloc: Global,
     free: bool,
@@ -122,7 +122,7 @@ pub fn read_lengths<'a>(
 
 // A length of a type name, and its closing bracket, one level below what holds the bracket.
 #[cycle(reading)]
-#[tactic(auto, using(c_grammar::proofs::DeclSteps::length_missing))]
+#[tactic(auto, using(c_grammar::proofs::TypeSteps::length_missing))]
 fn read_type_length<'a>(
     alloc: Global,
     depth: u32,
@@ -180,7 +180,7 @@ fn read_type_lengths<'a>(
 
 /// A type name, its levels, and what follows it. There are `depth` levels above it, and `probes` probes round it.
 #[cycle(reading)]
-#[tactic(auto, using(crate::proofs::SpecRead::type_read, crate::proofs::SpecRead::type_starless, crate::proofs::SpecRead::type_unended, c_grammar::proofs::DeclSteps::type_fails))]
+#[tactic(auto, using(crate::proofs::SpecRead::type_read, crate::proofs::SpecRead::type_starless, crate::proofs::SpecRead::type_unended, c_grammar::proofs::TypeSteps::type_fails))]
 pub fn read_type_name<'a>(
     alloc: Global,
     depth: u32,
@@ -205,7 +205,7 @@ pub fn read_type_name<'a>(
 
 /// Specifiers, one at least, their levels, and what follows them.
 #[cycle(reading)]
-#[tactic(auto, using(crate::proofs::SpecRead::some_read, crate::proofs::SpecRead::some_unread, c_grammar::proofs::DeclSteps::some_none))]
+#[tactic(auto, using(crate::proofs::SpecRead::some_read, crate::proofs::SpecRead::some_unread, c_grammar::proofs::TypeSteps::some_none))]
 pub fn read_specifiers<'a>(
     alloc: Global,
     depth: u32,
@@ -284,7 +284,7 @@ fn read_spec<'a>(
 
 // A structure behind its key, with a tag or a member list or both.
 #[cycle(reading)]
-#[tactic(auto, using(crate::proofs::SpecRead::bare_struct_read, crate::proofs::SpecRead::struct_read, crate::proofs::SpecRead::struct_unread, c_grammar::proofs::DeclSteps::struct_nothing))]
+#[tactic(auto, using(crate::proofs::SpecRead::bare_struct_read, crate::proofs::SpecRead::struct_read, crate::proofs::SpecRead::struct_unread, c_grammar::proofs::TypeSteps::struct_nothing))]
 fn read_struct<'a>(
     alloc: Global,
     depth: u32,
@@ -342,7 +342,7 @@ fn read_fields<'a>(
 
 // An enumeration behind its key, with a tag or enumerators or both.
 #[cycle(reading)]
-#[tactic(auto, using(crate::proofs::SpecRead::bare_enum_read, crate::proofs::SpecRead::enum_read, crate::proofs::SpecRead::enum_unread, c_grammar::proofs::DeclSteps::enum_nothing))]
+#[tactic(auto, using(crate::proofs::SpecRead::bare_enum_read, crate::proofs::SpecRead::enum_read, crate::proofs::SpecRead::enum_unread, c_grammar::proofs::TypeSteps::enum_nothing))]
 fn read_enum<'a>(
     alloc: Global,
     depth: u32,
@@ -425,7 +425,7 @@ fn read_enumers<'a>(
 
 // An enumerator with its value, where it has one; the levels are those of the value.
 #[cycle(reading)]
-#[tactic(auto, using(crate::proofs::SpecRead::enumer_read, c_grammar::proofs::DeclSteps::enumer_nameless, c_grammar::proofs::DeclSteps::enumer_fails))]
+#[tactic(auto, using(crate::proofs::SpecRead::enumer_read, c_grammar::proofs::TypeSteps::enumer_nameless, c_grammar::proofs::TypeSteps::enumer_fails))]
 fn read_enumer<'a>(
     alloc: Global,
     depth: u32,
@@ -450,7 +450,7 @@ fn read_enumer<'a>(
 
 // The value of an enumerator behind its name, where it has one.
 #[cycle(reading)]
-#[tactic(auto, using(crate::proofs::SpecRead::value_left_out, crate::proofs::SpecRead::value_read, c_grammar::proofs::DeclSteps::value_fails))]
+#[tactic(auto, using(crate::proofs::SpecRead::value_left_out, crate::proofs::SpecRead::value_read, c_grammar::proofs::TypeSteps::value_fails))]
 fn read_value<'a>(
     alloc: Global,
     depth: u32,

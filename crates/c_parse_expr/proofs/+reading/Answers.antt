@@ -3,8 +3,10 @@ use Rattle.c_parse_expr.proofs.SpecRead.{specs_further, specs_measured, fields_r
 use Rattle.c_syntax.specs.Levels.{decls_height, behind_height}
 use Rattle.c_syntax.specs.Shaped.{in_members, name_fits, in_params}
 use Rattle.c_syntax.specs.View.{decl_list, decl_form_shape, spec_list, declarator_shape, node_shape, init_shape, init_list, node_list}
-use Rattle.c_grammar.specs.Look.{is_spec, spec_head, Finds, after}
-use Rattle.c_grammar.specs.Reader.{reads_decls, reads_declarator, reads, reads_stars, reads_lengths}
+use Rattle.c_grammar.specs.Look.{Finds, after}
+use Rattle.c_grammar.specs.Starts.{is_spec, spec_head}
+use Rattle.c_grammar.specs.Reader.{reads_decls, reads_declarator, reads, reads_lengths}
+use Rattle.c_grammar.specs.ExprReader.{reads_stars}
 use Rattle.c_grammar.specs.Found.{Found, NodeFound}
 use Rattle.c_grammar.specs.Parts.{behind, declaring}
 use Rattle.c_grammar.specs.CodeView.{standing_of, oper_of, infix_of, prefix_of}
