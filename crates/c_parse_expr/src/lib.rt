@@ -4,4 +4,5 @@
 pub mod decl;
 pub mod expr;
 mod init;
+mod operand;
 pub mod spec;

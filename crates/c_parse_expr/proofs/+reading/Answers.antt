@@ -205,37 +205,37 @@ expr::grow_choice-returns-in_err-no-clause-fails t c = λ e. choice_unended c.ar
 pub expr::grow_choice-returns-clause-found : goal.expr::grow_choice-returns-clause-found
 expr::grow_choice-returns-clause-found t c = choice_read c.args.depth c.args.probes (node_shape c.args.left.value) _ _ _ _ _ _ _ _ _ c.args.op_pos _ _ _ c.in_ok-yes.ensures.found c.in_ok-no.ensures.found c.requires.measured c.in_ok-choice_node.ensures.ok c.higher.ensures c.higher-2.ensures c.above-all.ensures.levels c.above-all.ensures.probes
 
-pub expr::read_arguments-returns-in_err-args-clause-fails : goal.expr::read_arguments-returns-in_err-args-clause-fails
-expr::read_arguments-returns-in_err-args-clause-fails t c = λ e. arguments_broken _ _ _ _ _ _ _ _ c.in_default.ensures.found c.in_ok-first.ensures.found c.new-args.ensures.items c.in_ok-put_inner.ensures.ok (c.in_err-args.ensures.fails (search rules))
+pub operand::read_arguments-returns-in_err-args-clause-fails : goal.operand::read_arguments-returns-in_err-args-clause-fails
+operand::read_arguments-returns-in_err-args-clause-fails t c = λ e. arguments_broken _ _ _ _ _ _ _ _ c.in_default.ensures.found c.in_ok-first.ensures.found c.new-args.ensures.items c.in_ok-put_inner.ensures.ok (c.in_err-args.ensures.fails (search rules))
 
-pub expr::read_arguments-returns-in-Some-past-clause-found : goal.expr::read_arguments-returns-in-Some-past-clause-found
-expr::read_arguments-returns-in-Some-past-clause-found t c = arguments_read _ _ _ _ _ _ _ _ _ _ _ _ c.in_default.ensures.found c.in_ok-first.ensures.found c.new-args.ensures.items c.in_ok-put_inner.ensures.ok c.in_ok-args.ensures.found c.in-Some-past.ensures.found
+pub operand::read_arguments-returns-in-Some-past-clause-found : goal.operand::read_arguments-returns-in-Some-past-clause-found
+operand::read_arguments-returns-in-Some-past-clause-found t c = arguments_read _ _ _ _ _ _ _ _ _ _ _ _ c.in_default.ensures.found c.in_ok-first.ensures.found c.new-args.ensures.items c.in_ok-put_inner.ensures.ok c.in_ok-args.ensures.found c.in-Some-past.ensures.found
 
-pub expr::read_arguments-returns-in-None-clause-fails : goal.expr::read_arguments-returns-in-None-clause-fails
-expr::read_arguments-returns-in-None-clause-fails t c = λ e. arguments_unclosed _ _ _ _ _ _ _ _ _ _ _ c.in_default.ensures.found c.in_ok-first.ensures.found c.new-args.ensures.items c.in_ok-put_inner.ensures.ok c.in_ok-args.ensures.found c.in-None.ensures.found
+pub operand::read_arguments-returns-in-None-clause-fails : goal.operand::read_arguments-returns-in-None-clause-fails
+operand::read_arguments-returns-in-None-clause-fails t c = λ e. arguments_unclosed _ _ _ _ _ _ _ _ _ _ _ c.in_default.ensures.found c.in_ok-first.ensures.found c.new-args.ensures.items c.in_ok-put_inner.ensures.ok c.in_ok-args.ensures.found c.in-None.ensures.found
 
-pub expr::read_cast-returns-in_err-operand-clause-fails : goal.expr::read_cast-returns-in_err-operand-clause-fails
-expr::read_cast-returns-in_err-operand-clause-fails t c = λ e. cast_unended _ _ _ _ _ _ _ _ c.requires.begins c.requires.type_there c.in_ok-type_name.ensures.found (c.in_err-operand.ensures.fails (search rules))
+pub operand::read_cast-returns-in_err-operand-clause-fails : goal.operand::read_cast-returns-in_err-operand-clause-fails
+operand::read_cast-returns-in_err-operand-clause-fails t c = λ e. cast_unended _ _ _ _ _ _ _ _ c.requires.begins c.requires.type_there c.in_ok-type_name.ensures.found (c.in_err-operand.ensures.fails (search rules))
 
-pub expr::read_cast-returns-clause-found : goal.expr::read_cast-returns-clause-found
-expr::read_cast-returns-clause-found t c = cast_read _ _ _ _ _ _ _ _ _ _ _ _ _ _ _ c.requires.begins c.requires.type_there c.in_ok-type_name.ensures.found c.in_ok-operand.ensures.found c.first_place.ensures c.in_ok-node.ensures.ok c.higher.ensures c.above-all.ensures.levels c.above-all.ensures.probes
+pub operand::read_cast-returns-clause-found : goal.operand::read_cast-returns-clause-found
+operand::read_cast-returns-clause-found t c = cast_read _ _ _ _ _ _ _ _ _ _ _ _ _ _ _ c.requires.begins c.requires.type_there c.in_ok-type_name.ensures.found c.in_ok-operand.ensures.found c.first_place.ensures c.in_ok-node.ensures.ok c.higher.ensures c.above-all.ensures.levels c.above-all.ensures.probes
 
-pub expr::read_closed-returns-in-Some-clause-found : goal.expr::read_closed-returns-in-Some-clause-found
-expr::read_closed-returns-in-Some-clause-found t c = mark_read c.args.mark c.args.depth c.args.probes _ _ _ _ _ c.in_ok-inner.ensures.found c.in-Some.ensures.found
+pub operand::read_closed-returns-in-Some-clause-found : goal.operand::read_closed-returns-in-Some-clause-found
+operand::read_closed-returns-in-Some-clause-found t c = mark_read c.args.mark c.args.depth c.args.probes _ _ _ _ _ c.in_ok-inner.ensures.found c.in-Some.ensures.found
 
-pub expr::read_led-loop-inside-preserved : goal.expr::read_led-loop-inside-preserved
-expr::read_led-loop-inside-preserved t c = record {
+pub operand::read_led-loop-inside-preserved : goal.operand::read_led-loop-inside-preserved
+operand::read_led-loop-inside-preserved t c = record {
   low = search rules;
   measured = led_measured _ _ _ _ _ _ _ _ _ _ _ c.in_ok-node.ensures.found c.loop-inside.invariant.measured c.in_ok-put_inner.ensures.ok c.higher.ensures c.higher-in-Some.ensures;
   no_longer = search rules;
   on = led_further _ _ _ _ _ _ _ _ _ _ _ _ c.loop-inside.invariant.on c.in-Some.ensures.found c.in_ok-node.ensures.found c.in_ok-put_inner.ensures.ok;
 }
 
-pub expr::read_led-returns-clause-found : goal.expr::read_led-returns-clause-found
-expr::read_led-returns-clause-found t c = led_ended _ _ _ _ _ _ _ _ c.loop-inside.invariant.on c.loop-inside.invariant.measured c.in_default.ensures.found
+pub operand::read_led-returns-clause-found : goal.operand::read_led-returns-clause-found
+operand::read_led-returns-clause-found t c = led_ended _ _ _ _ _ _ _ _ c.loop-inside.invariant.on c.loop-inside.invariant.measured c.in_default.ensures.found
 
-pub expr::read_name-returns-in_ok-call_node-in-Some-clause-found : goal.expr::read_name-returns-in_ok-call_node-in-Some-clause-found
-expr::read_name-returns-in_ok-call_node-in-Some-clause-found t c = call_read _ _ _ _ _ _ _ _ _ _ _ _ c.requires.begins c.in-Some.ensures.found c.in_ok-args-in-Some.ensures.found c.first_place-pos.ensures c.in_ok-call_node-in-Some.ensures.ok c.above-in-Some.ensures.levels c.above-in-Some.ensures.probes
+pub operand::read_name-returns-in_ok-call_node-in-Some-clause-found : goal.operand::read_name-returns-in_ok-call_node-in-Some-clause-found
+operand::read_name-returns-in_ok-call_node-in-Some-clause-found t c = call_read _ _ _ _ _ _ _ _ _ _ _ _ c.requires.begins c.in-Some.ensures.found c.in_ok-args-in-Some.ensures.found c.first_place-pos.ensures c.in_ok-call_node-in-Some.ensures.ok c.above-in-Some.ensures.levels c.above-in-Some.ensures.probes
 
 pub expr::read_node-returns-then-level_of-least-clause-fails : goal.expr::read_node-returns-then-level_of-least-clause-fails
 expr::read_node-returns-then-level_of-least-clause-fails t c = λ e. node_loose _ _ _ _ _ _ _ _ (search rules) c.in_ok-first.ensures.found (level_inner _ _ _ c.deref.ensures c.level_of.ensures.value) (search rules)
@@ -246,32 +246,32 @@ expr::read_node-returns-clause-found t c = IfOk-weaker c.climb.result _ _ (λ p 
 pub expr::read_node-returns-clause-fails : goal.expr::read_node-returns-clause-fails
 expr::read_node-returns-clause-fails t c = λ e. node_unended _ _ _ _ _ _ _ _ (search rules) c.in_ok-first.ensures.found (level_inner _ _ _ c.deref.ensures c.level_of.ensures.value) (search rules) (c.climb.ensures.fails e)
 
-pub expr::read_typed-returns-in-None-clause-fails : goal.expr::read_typed-returns-in-None-clause-fails
-expr::read_typed-returns-in-None-clause-fails t c = λ e. typed_unclosed _ _ _ _ _ _ c.in_ok-type_name.ensures.found c.in-None.ensures.found
+pub operand::read_typed-returns-in-None-clause-fails : goal.operand::read_typed-returns-in-None-clause-fails
+operand::read_typed-returns-in-None-clause-fails t c = λ e. typed_unclosed _ _ _ _ _ _ c.in_ok-type_name.ensures.found c.in-None.ensures.found
 
-pub expr::read_typed-returns-in-Some-clause-found : goal.expr::read_typed-returns-in-Some-clause-found
-expr::read_typed-returns-in-Some-clause-found t c = typed_read _ _ _ _ _ _ _ c.in_ok-type_name.ensures.found c.in-Some.ensures.found
+pub operand::read_typed-returns-in-Some-clause-found : goal.operand::read_typed-returns-in-Some-clause-found
+operand::read_typed-returns-in-Some-clause-found t c = typed_read _ _ _ _ _ _ _ c.in_ok-type_name.ensures.found c.in-Some.ensures.found
 
-pub expr::read_select-returns-clause-found : goal.expr::read_select-returns-clause-found
-expr::read_select-returns-clause-found t c = select_read _ _ _ _ _ _ _ _ _ _ _ _ _ _ _ c.requires.begins c.first_place.ensures (search rules) c.in-Some.ensures.found c.in_ok-cases.ensures.found c.in-Some-past.ensures.found c.in_ok-inner.ensures.found c.in_ok-node.ensures.ok
+pub operand::read_select-returns-clause-found : goal.operand::read_select-returns-clause-found
+operand::read_select-returns-clause-found t c = select_read _ _ _ _ _ _ _ _ _ _ _ _ _ _ _ c.requires.begins c.first_place.ensures (search rules) c.in-Some.ensures.found c.in_ok-cases.ensures.found c.in-Some-past.ensures.found c.in_ok-inner.ensures.found c.in_ok-node.ensures.ok
 
-pub expr::read_select-returns-in_err-inner-clause-fails : goal.expr::read_select-returns-in_err-inner-clause-fails
-expr::read_select-returns-in_err-inner-clause-fails t c = λ e. select_unread _ _ _ _ _ _ _ _ _ _ c.requires.begins (search rules) c.in-Some.ensures.found c.in_ok-cases.ensures.found c.in-Some-past.ensures.found (c.in_err-inner.ensures.fails (search rules))
+pub operand::read_select-returns-in_err-inner-clause-fails : goal.operand::read_select-returns-in_err-inner-clause-fails
+operand::read_select-returns-in_err-inner-clause-fails t c = λ e. select_unread _ _ _ _ _ _ _ _ _ _ c.requires.begins (search rules) c.in-Some.ensures.found c.in_ok-cases.ensures.found c.in-Some-past.ensures.found (c.in_err-inner.ensures.fails (search rules))
 
-pub expr::read_simple-returns-clause-found : goal.expr::read_simple-returns-clause-found
-expr::read_simple-returns-clause-found t c = simple_read _ _ _ _ _ _ _ _ _ _ _ _ _ _ _ c.requires.begins c.first_place.ensures (search rules) c.in-Some.ensures.found c.in-Some-past.ensures.found c.probe_bound-least.ensures.value refl refl c.in_ok-inner.ensures.found c.in_ok-node.ensures.ok
+pub operand::read_simple-returns-clause-found : goal.operand::read_simple-returns-clause-found
+operand::read_simple-returns-clause-found t c = simple_read _ _ _ _ _ _ _ _ _ _ _ _ _ _ _ c.requires.begins c.first_place.ensures (search rules) c.in-Some.ensures.found c.in-Some-past.ensures.found c.probe_bound-least.ensures.value refl refl c.in_ok-inner.ensures.found c.in_ok-node.ensures.ok
 
-pub expr::read_simple-returns-in_err-inner-clause-fails : goal.expr::read_simple-returns-in_err-inner-clause-fails
-expr::read_simple-returns-in_err-inner-clause-fails t c = λ e. simple_unread _ _ _ _ _ _ _ _ _ _ c.requires.begins (search rules) c.in-Some.ensures.found c.in-Some-past.ensures.found c.probe_bound-least.ensures.value refl refl (c.in_err-inner.ensures.fails (search rules))
+pub operand::read_simple-returns-in_err-inner-clause-fails : goal.operand::read_simple-returns-in_err-inner-clause-fails
+operand::read_simple-returns-in_err-inner-clause-fails t c = λ e. simple_unread _ _ _ _ _ _ _ _ _ _ c.requires.begins (search rules) c.in-Some.ensures.found c.in-Some-past.ensures.found c.probe_bound-least.ensures.value refl refl (c.in_err-inner.ensures.fails (search rules))
 
 pub expr::grow_infix-returns-clause-found : goal.expr::grow_infix-returns-clause-found
 expr::grow_infix-returns-clause-found t c = infix_read c.args.depth c.args.probes _ (node_shape c.args.left.value) _ _ _ _ _ _ c.args.op_pos (infix_of c.args.op) _ _ c.right_bound.ensures.value c.in_ok-right.ensures.found c.requires.measured c.in_ok-infix_node.ensures.ok c.higher.ensures c.above-all.ensures.levels c.above-all.ensures.probes
 
-pub expr::read_prefix-returns-in_ok-node-in-None-clause-found : goal.expr::read_prefix-returns-in_ok-node-in-None-clause-found
-expr::read_prefix-returns-in_ok-node-in-None-clause-found t c = prefix_read c.args.depth c.args.probes _ (node_shape c.in_ok-operand-in-None.operand.value) _ _ _ (prefix_of c.args.op) _ _ _ c.requires.begins c.in-None.ensures.found c.prefix_bound.ensures.value c.in_ok-operand-in-None.ensures.found (c.in_ok-node-in-None.ensures.ok ∙ ap (λ q. node q q bare (prefix (prefix_of c.args.op) (node_shape c.in_ok-operand-in-None.operand.value))) c.first_place-pos.ensures) c.above-in-None.ensures.levels c.above-in-None.ensures.probes
+pub operand::read_prefix-returns-in_ok-node-in-None-clause-found : goal.operand::read_prefix-returns-in_ok-node-in-None-clause-found
+operand::read_prefix-returns-in_ok-node-in-None-clause-found t c = prefix_read c.args.depth c.args.probes _ (node_shape c.in_ok-operand-in-None.operand.value) _ _ _ (prefix_of c.args.op) _ _ _ c.requires.begins c.in-None.ensures.found c.prefix_bound.ensures.value c.in_ok-operand-in-None.ensures.found (c.in_ok-node-in-None.ensures.ok ∙ ap (λ q. node q q bare (prefix (prefix_of c.args.op) (node_shape c.in_ok-operand-in-None.operand.value))) c.first_place-pos.ensures) c.above-in-None.ensures.levels c.above-in-None.ensures.probes
 
-pub expr::read_inside-returns-in_default-clause-fails : goal.expr::read_inside-returns-in_default-clause-fails
-expr::read_inside-returns-in_default-clause-fails t c = λ e. inside_unclosed _ _ _ _ c.args.cases _ _ _ c.in_ok-inner.ensures.found c.in_default.ensures.found
+pub operand::read_inside-returns-in_default-clause-fails : goal.operand::read_inside-returns-in_default-clause-fails
+operand::read_inside-returns-in_default-clause-fails t c = λ e. inside_unclosed _ _ _ _ c.args.cases _ _ _ c.in_ok-inner.ensures.found c.in_default.ensures.found
 
-pub expr::read_inside-returns-in-None-clause-fails : goal.expr::read_inside-returns-in-None-clause-fails
-expr::read_inside-returns-in-None-clause-fails t c = λ e. inside_too_many _ _ _ _ c.args.cases _ _ _ _ c.in_ok-inner.ensures.found c.in-Some.ensures.found c.in-None.ensures.few
+pub operand::read_inside-returns-in-None-clause-fails : goal.operand::read_inside-returns-in-None-clause-fails
+operand::read_inside-returns-in-None-clause-fails t c = λ e. inside_too_many _ _ _ _ c.args.cases _ _ _ _ c.in_ok-inner.ensures.found c.in-Some.ensures.found c.in-None.ensures.few

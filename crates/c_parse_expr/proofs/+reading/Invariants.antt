@@ -9,8 +9,8 @@ use Rattle.c_parse_expr.proofs.ExprRead.{ClimbsFrom, LedBehind}
 use Rattle.c_grammar.specs.Reader.{reads_enumers}
 use Rattle.c_parse_expr.proofs.+reading.Given as goal
 
-abbrev pub decreases-expr::read_typed : goal.decreases-expr::read_typed
-decreases-expr::read_typed l = 8 * length l.input.now + 4
+abbrev pub decreases-operand::read_typed : goal.decreases-operand::read_typed
+decreases-operand::read_typed l = 8 * length l.input.now + 4
 
 abbrev pub decreases-spec::read_given : goal.decreases-spec::read_given
 decreases-spec::read_given l = 8 * length l.input.now + 3
@@ -177,41 +177,41 @@ decreases-expr::grow_choice l = 8 * length l.input.now + 4
 abbrev pub decreases-expr::grow_index : goal.decreases-expr::grow_index
 decreases-expr::grow_index l = 8 * length l.input.now + 4
 
-abbrev pub decreases-expr::read_closed : goal.decreases-expr::read_closed
-decreases-expr::read_closed l = 8 * length l.input.now + 3
+abbrev pub decreases-operand::read_closed : goal.decreases-operand::read_closed
+decreases-operand::read_closed l = 8 * length l.input.now + 3
 
-abbrev pub decreases-expr::read_front : goal.decreases-expr::read_front
-decreases-expr::read_front l = 8 * length l.input.now + 1
+abbrev pub decreases-operand::read_front : goal.decreases-operand::read_front
+decreases-operand::read_front l = 8 * length l.input.now + 1
 
-abbrev pub decreases-expr::read_name : goal.decreases-expr::read_name
-decreases-expr::read_name l = 8 * length l.input.now
+abbrev pub decreases-operand::read_name : goal.decreases-operand::read_name
+decreases-operand::read_name l = 8 * length l.input.now
 
-abbrev pub decreases-expr::read_arguments : goal.decreases-expr::read_arguments
-decreases-expr::read_arguments l = 8 * length l.input.now + 3
+abbrev pub decreases-operand::read_arguments : goal.decreases-operand::read_arguments
+decreases-operand::read_arguments l = 8 * length l.input.now + 3
 
-abbrev pub decreases-expr::read_led : goal.decreases-expr::read_led
-decreases-expr::read_led l = 8 * length l.input.now
+abbrev pub decreases-operand::read_led : goal.decreases-operand::read_led
+decreases-operand::read_led l = 8 * length l.input.now
 
-abbrev pub decreases-expr::read_prefix : goal.decreases-expr::read_prefix
-decreases-expr::read_prefix l = 8 * length l.input.now
+abbrev pub decreases-operand::read_prefix : goal.decreases-operand::read_prefix
+decreases-operand::read_prefix l = 8 * length l.input.now
 
-abbrev pub decreases-expr::read_paren : goal.decreases-expr::read_paren
-decreases-expr::read_paren l = 8 * length l.input.now
+abbrev pub decreases-operand::read_paren : goal.decreases-operand::read_paren
+decreases-operand::read_paren l = 8 * length l.input.now
 
-abbrev pub decreases-expr::read_cast : goal.decreases-expr::read_cast
-decreases-expr::read_cast l = 8 * length l.inside.now + 5
+abbrev pub decreases-operand::read_cast : goal.decreases-operand::read_cast
+decreases-operand::read_cast l = 8 * length l.inside.now + 5
 
-abbrev pub decreases-expr::read_simple : goal.decreases-expr::read_simple
-decreases-expr::read_simple l = 8 * length l.input.now
+abbrev pub decreases-operand::read_simple : goal.decreases-operand::read_simple
+decreases-operand::read_simple l = 8 * length l.input.now
 
-abbrev pub decreases-expr::read_select : goal.decreases-expr::read_select
-decreases-expr::read_select l = 8 * length l.input.now
+abbrev pub decreases-operand::read_select : goal.decreases-operand::read_select
+decreases-operand::read_select l = 8 * length l.input.now
 
-abbrev pub decreases-expr::read_cases : goal.decreases-expr::read_cases
-decreases-expr::read_cases l = 8 * length l.input.now + 1
+abbrev pub decreases-operand::read_cases : goal.decreases-operand::read_cases
+decreases-operand::read_cases l = 8 * length l.input.now + 1
 
-abbrev pub decreases-expr::read_inside : goal.decreases-expr::read_inside
-decreases-expr::read_inside l = 8 * length l.input.now + 3
+abbrev pub decreases-operand::read_inside : goal.decreases-operand::read_inside
+decreases-operand::read_inside l = 8 * length l.input.now + 3
 
 abbrev pub invariant-expr::climb-loop-op : goal.invariant-expr::climb-loop-op
 invariant-expr::climb-loop-op l = record {
@@ -224,16 +224,16 @@ invariant-expr::climb-loop-op l = record {
 abbrev pub decreases-expr::climb-loop-op : goal.decreases-expr::climb-loop-op
 decreases-expr::climb-loop-op l = length l.rest
 
-abbrev pub invariant-expr::read_led-loop-inside : goal.invariant-expr::read_led-loop-inside
-invariant-expr::read_led-loop-inside l = record {
+abbrev pub invariant-operand::read_led-loop-inside : goal.invariant-operand::read_led-loop-inside
+invariant-operand::read_led-loop-inside l = record {
   low : l.all.levels + l.depth ≤ 400;
   measured : AllMeasured (node_list l.list.items) l.all;
   no_longer : length l.rest ≤ length l.input;
   on : LedBehind l.least l.depth l.probes l.fn.before.items l.list.items l.input l.rest;
 }
 
-abbrev pub decreases-expr::read_led-loop-inside : goal.decreases-expr::read_led-loop-inside
-decreases-expr::read_led-loop-inside l = length l.rest
+abbrev pub decreases-operand::read_led-loop-inside : goal.decreases-operand::read_led-loop-inside
+decreases-operand::read_led-loop-inside l = length l.rest
 
 abbrev pub invariant-spec::read_enumers-loop-inside : goal.invariant-spec::read_enumers-loop-inside
 invariant-spec::read_enumers-loop-inside l = record {
