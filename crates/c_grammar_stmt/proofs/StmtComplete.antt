@@ -20,8 +20,9 @@ use Rattle.c_grammar_stmt.specs.StmtReader.{mark_closed, mark_ahead, reads_marks
 use Rattle.c_grammar_stmt.specs.StmtParts.{parens, optional}
 use Rattle.c_grammar.proofs.Looking.{after_of, after_key_of, after_probe_of}
 use Rattle.c_grammar.proofs.DeclSteps.{declaring_found}
-use Rattle.c_grammar_stmt.proofs.StmtSteps.{mark_found, marks_stop, marks_on, parens_found, optional_none, optional_found, if_plain, if_else, while_found, do_found, for_found, switch_found, return_found, simple_found, compound_form_found, form_compound, form_if, form_while, form_do, form_for, form_switch, form_return, form_break, form_continue, form_simple, stmt_found, labels_stop, labels_case, labels_default, items_end, items_on, compound_found, external_found, external_plain, external_named, external_defined, external_declared, function_found}
-use Rattle.c_grammar_stmt.proofs.StmtSound.{Ends, EndsForm, any_ends, closed_ends}
+use Rattle.c_grammar_stmt.proofs.StmtSteps.{stmt_found, labels_stop, labels_case, labels_default, items_end, items_on, compound_found, external_found, external_plain, external_named, external_defined, external_declared, function_found}
+use Rattle.c_grammar_stmt.proofs.FormSteps.{mark_found, marks_stop, marks_on, parens_found, optional_none, optional_found, if_plain, if_else, while_found, do_found, for_found, switch_found, return_found, simple_found, compound_form_found, form_compound, form_if, form_while, form_do, form_for, form_switch, form_return, form_break, form_continue, form_simple}
+use Rattle.c_grammar_stmt.proofs.LabelSound.{Ends, EndsForm, any_ends, closed_ends}
 use Rattle.c_grammar.proofs.CompleteExpr.{numbered_of}
 use Rattle.c_grammar.proofs.CompleteNames as names
 use Rattle.c_grammar.proofs.CompleteNames.{ends_brace, ends_block, led_declarators_end, ends_semicolon}

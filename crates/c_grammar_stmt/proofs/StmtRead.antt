@@ -25,7 +25,8 @@ use Rattle.c_grammar_stmt.specs.StmtFound.{brace_there, NoNest, HeadFound, ItemF
 use Rattle.c_grammar.proofs.Looking.{find_from}
 use Rattle.c_grammar.proofs.Leading.{leads_more, leads_fail}
 use Rattle.c_grammar.proofs.ExprSteps.{high_none}
-use Rattle.c_grammar_stmt.proofs.StmtSteps.{parens_found, parens_open, optional_none, optional_found, optional_open, if_plain, if_else, if_fails, if_then_fails, if_else_fails, while_found, while_fails, while_body_fails, do_found, do_fails, do_whileless, do_condition_fails, do_unended, for_found, for_first_fails, for_second_fails, for_third_fails, for_body_fails, switch_found, switch_fails, switch_bare, switch_items_fail, switch_open, return_found, return_fails, simple_found, simple_fails, compound_form_found, compound_form_fails, form_compound, form_if, form_while, form_do, form_for, form_switch, form_return, form_break, form_continue, form_simple, stmt_found, items_on, items_labels_fail, items_stmt_fail, item_list_done, depth_plain, depth_labelled, compound_found, compound_decls_fail, compound_items_fail, compound_open}
+use Rattle.c_grammar_stmt.proofs.StmtSteps.{stmt_found, items_on, items_labels_fail, items_stmt_fail, item_list_done, depth_plain, depth_labelled, compound_found, compound_decls_fail, compound_items_fail, compound_open}
+use Rattle.c_grammar_stmt.proofs.FormSteps.{parens_found, parens_open, optional_none, optional_found, optional_open, if_plain, if_else, if_fails, if_then_fails, if_else_fails, while_found, while_fails, while_body_fails, do_found, do_fails, do_whileless, do_condition_fails, do_unended, for_found, for_first_fails, for_second_fails, for_third_fails, for_body_fails, switch_found, switch_fails, switch_bare, switch_items_fail, switch_open, return_found, return_fails, simple_found, simple_fails, compound_form_found, compound_form_fails, form_compound, form_if, form_while, form_do, form_for, form_switch, form_return, form_break, form_continue, form_simple}
 use Rattle.c_grammar_stmt.proofs.StmtLabels.{one_case, one_case_fails, one_case_open, one_default, label_list_more, label_list_end}
 
 -- LEVELS

@@ -115,7 +115,7 @@ fn at_label(input: &[Token]) -> bool
 }
 
 // The number of a block probe at the front, and what follows the probe.
-#[tactic(auto, using(c_grammar_stmt::proofs::StmtSteps::mark_found, c_grammar_stmt::proofs::StmtSteps::mark_none, c_grammar_stmt::proofs::StmtSteps::mark_numberless, c_grammar_stmt::proofs::StmtSteps::mark_open, c_grammar_stmt::proofs::StmtSteps::mark_no_colon))]
+#[tactic(auto, using(c_grammar_stmt::proofs::FormSteps::mark_found, c_grammar_stmt::proofs::FormSteps::mark_none, c_grammar_stmt::proofs::FormSteps::mark_numberless, c_grammar_stmt::proofs::FormSteps::mark_open, c_grammar_stmt::proofs::FormSteps::mark_no_colon))]
 fn find_mark(input: &[Token]) -> Option<(&Text, &[Token])>
     ensures found { MatchOption result (mark_ahead input.now ≡ None) (λ p. mark_ahead input.now ≡ got p.0.now p.1.now) }
     ensures shorter { IfSome result (λ p. length p.1.now < length input.now) }
@@ -130,7 +130,7 @@ fn find_mark(input: &[Token]) -> Option<(&Text, &[Token])>
 // READING
 
 /// The block probes at the front, and what follows them.
-#[tactic(auto, using(c_grammar_stmt::proofs::StmtSteps::marks_start, c_grammar_stmt::proofs::StmtSteps::marks_more, c_grammar_stmt::proofs::StmtSteps::marks_done))]
+#[tactic(auto, using(c_grammar_stmt::proofs::FormSteps::marks_start, c_grammar_stmt::proofs::FormSteps::marks_more, c_grammar_stmt::proofs::FormSteps::marks_done))]
 pub fn read_marks<'a>(
     alloc: Global,
     input: &'a [Token],
@@ -151,7 +151,7 @@ pub fn read_marks<'a>(
 }
 
 /// An expression in parentheses, its levels, and what follows it. There are `depth` levels above it.
-#[tactic(auto, using(c_grammar_stmt::proofs::StmtRead::parens_read, c_grammar_stmt::proofs::StmtRead::parens_unclosed, c_grammar_stmt::proofs::StmtSteps::parens_bare, c_grammar_stmt::proofs::StmtSteps::parens_fail))]
+#[tactic(auto, using(c_grammar_stmt::proofs::StmtRead::parens_read, c_grammar_stmt::proofs::StmtRead::parens_unclosed, c_grammar_stmt::proofs::FormSteps::parens_bare, c_grammar_stmt::proofs::FormSteps::parens_fail))]
 pub fn read_parens<'a>(
     alloc: Global,
     depth: u32,
@@ -175,7 +175,7 @@ pub fn read_parens<'a>(
 }
 
 /// An expression, or none, before this mark; its levels, and what follows the mark. There are `depth` levels above it.
-#[tactic(auto, using(c_grammar_stmt::proofs::StmtRead::optional_left, c_grammar_stmt::proofs::StmtRead::optional_read, c_grammar_stmt::proofs::StmtRead::optional_unclosed, c_grammar_stmt::proofs::StmtSteps::optional_fails))]
+#[tactic(auto, using(c_grammar_stmt::proofs::StmtRead::optional_left, c_grammar_stmt::proofs::StmtRead::optional_read, c_grammar_stmt::proofs::StmtRead::optional_unclosed, c_grammar_stmt::proofs::FormSteps::optional_fails))]
 pub fn read_optional<'a>(
     alloc: Global,
     mark: Mark,
@@ -201,7 +201,7 @@ pub fn read_optional<'a>(
 
 /// What stands in the parentheses of a `for`, and the closing parenthesis; its levels, and what follows it. There are
 /// `depth` levels above the `for`.
-#[tactic(auto, using(c_grammar_stmt::proofs::StmtSteps::for_bare, c_grammar_stmt::proofs::StmtRead::head_first))]
+#[tactic(auto, using(c_grammar_stmt::proofs::FormSteps::for_bare, c_grammar_stmt::proofs::StmtRead::head_first))]
 pub fn read_head<'a>(
     alloc: Global,
     depth: u32,
@@ -283,7 +283,7 @@ pub fn read_labels<'a>(
 }
 
 /// A form that holds no statement, its levels, and what follows it. There are `depth` levels above its statement.
-#[tactic(auto, using(c_grammar_stmt::proofs::StmtRead::break_read, c_grammar_stmt::proofs::StmtRead::continue_read, c_grammar_stmt::proofs::StmtRead::return_unread, c_grammar_stmt::proofs::StmtRead::plain_unread, c_grammar_stmt::proofs::StmtSteps::form_break_unended, c_grammar_stmt::proofs::StmtSteps::form_continue_unended))]
+#[tactic(auto, using(c_grammar_stmt::proofs::StmtRead::break_read, c_grammar_stmt::proofs::StmtRead::continue_read, c_grammar_stmt::proofs::StmtRead::return_unread, c_grammar_stmt::proofs::StmtRead::plain_unread, c_grammar_stmt::proofs::FormSteps::form_break_unended, c_grammar_stmt::proofs::FormSteps::form_continue_unended))]
 pub fn read_plain<'a>(
     alloc: Global,
     depth: u32,

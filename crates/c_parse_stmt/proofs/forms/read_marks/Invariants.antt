@@ -1,5 +1,5 @@
 use Rattle.std.proofs.Common.{◌≤◌, length}
-use Rattle.c_grammar_stmt.proofs.StmtSteps.{MarksFrom}
+use Rattle.c_grammar_stmt.proofs.FormSteps.{MarksFrom}
 use Rattle.c_parse_stmt.proofs.forms.read_marks.Given as goal
 
 abbrev pub invariant-loop-number : goal.invariant-loop-number
