@@ -1,5 +1,5 @@
 -- Two ways to the same result, behind which fewer turns are left: what each step of the meaning makes of them.
-use Rattle.std.proofs.Common.{◌≡◌, ℕ, zero, suc, ◌<◌, ◌-◌, List, [], ◌∷◌, Option, Some, None, Result, Ok, Err, Bool, true, false, ◌∙◌, refl, subst, arith}
+use Rattle.std.proofs.Common.{◌≡◌, ℕ, zero, suc, ◌<◌, ◌-◌, List, [], ◌∷◌, Option, Some, None, Result, Ok, Err, Bool, true, false, refl, subst, arith}
 use Rattle.std.specs.Prelude.{nat_le, if◌then◌else◌}
 use Rattle.c_events.specs.declared.events.Event.{Event}
 use Rattle.c_syntax.specs.declared.text.Text.{Text}
@@ -7,7 +7,7 @@ use Rattle.c_constants.specs.Probes.{probe_number_of}
 use Rattle.c_store.specs.declared.value.Value.{Value}
 use Rattle.c_store.specs.declared.value.Pointer.{Pointer}
 use Rattle.c_store.specs.declared.value.Fault.{Fault}
-use Rattle.c_meaning.specs.State.{Act, tells, State}
+use Rattle.c_meaning.specs.State.{Act, State}
 use Rattle.c_meaning.specs.Results.{Got, Gives, Stops, then_do, turn_of, turn, turns, settled, present, needed}
 use Rattle.c_meaning.specs.Firsts.{First, quiet, heard, noted_block, noted_use, noted_def}
 use Rattle.c_meaning.specs.Places.{logs_one, logs}

@@ -1,6 +1,6 @@
 -- A copy of a structure beside one of which nothing is told, the turns that it leaves, and what it keeps.
-use Rattle.std.proofs.Common.{◌≡◌, ℕ, zero, suc, ◌-◌, ◌<◌, List, Option, Some, None, Result, Ok, Err, Bool, true, false, ◌∙◌, refl, ap, arith}
-use Rattle.std.specs.Prelude.{nat_le, if◌then◌else◌}
+use Rattle.std.proofs.Common.{◌≡◌, ℕ, zero, suc, ◌-◌, ◌<◌, List, Option, None, Result, Ok, Err, ◌∙◌, refl, ap, arith}
+use Rattle.std.specs.Prelude.{nat_le}
 use Rattle.c_events.specs.declared.events.Event.{Event}
 use Rattle.c_syntax.specs.declared.text.Text.{Text}
 use Rattle.c_store.specs.declared.value.Value.{Value}
@@ -10,9 +10,9 @@ use Rattle.c_store.specs.declared.value.Fault.TheVariants.{WriteLiteral}
 use Rattle.c_store.specs.Cells.{Cells, Slot, cell_of, element_of, replace}
 use Rattle.c_store.specs.Copies.{reach_of, copy_of, copied_in, with_part, cells_at}
 use Rattle.c_meaning.specs.State.{Act, tells, repeats, State}
-use Rattle.c_meaning.specs.Results.{Got, Gives, Stops, then_do, turns, untyped, settled}
-use Rattle.c_meaning.specs.Firsts.{First, quiet, heard, noted_use, noted_def}
-use Rattle.c_meaning.specs.Places.{next_cell, logs, log_use, log_def, first_of, cells_used, cells_defined, alike_in_size, copied_cells, copied}
+use Rattle.c_meaning.specs.Results.{Got, Gives, then_do, turns, untyped, settled}
+use Rattle.c_meaning.specs.Firsts.{First, quiet, noted_use, noted_def}
+use Rattle.c_meaning.specs.Places.{next_cell, log_use, log_def, first_of, cells_used, cells_defined, alike_in_size, copied_cells, copied}
 use Rattle.c_meaning.specs.Lasting.{Lasts, Lasted}
 use Rattle.c_meaning.proofs.Hushed.{hush, hushed, hush_then, hush_turns, hush_if, hush_settled, hush_logs, use_hush, def_hush}
 use Rattle.c_meaning.proofs.Alike.{Left, left_then, if_left, settled_left, logs_left, use_turns, def_turns}

@@ -1,7 +1,8 @@
 -- What a probe logs has numbers that a probe may have.
-use Rattle.std.proofs.Common.{◌≡◌, ℕ, suc, ℤ, ◌≤◌, List, [], ◌∷◌, length, Option, Some, None, Bool, true, false, refl, ap, ◌∙◌, arith}
-use Rattle.std.specs.Prelude.{◌&&◌, int_eq, if◌then◌else◌}
-use Rattle.std.proofs.lemmas.Bool.Decides.{nat_tests}
+use Rattle.std.proofs.Common.{◌≡◌, ℕ, suc, ℤ, ◌≤◌, List, [], ◌∷◌, Option, Some, None, Bool, true, false, refl, arith}
+use Rattle.std.specs.Prelude.{◌&&◌, nat_le, if◌then◌else◌}
+use Rattle.std.specs.Ordering.{int_eq}
+use Rattle.std.proofs.lemmas.Bool.{and_parts, leb-true}
 use Rattle.c_base.specs.declared.place.IntKind.{IntKind}
 use Rattle.c_syntax.specs.declared.text.Text.{Text}
 use Rattle.c_lex_pieces.specs.Bytes.{between}
@@ -21,7 +22,9 @@ AllProbeNumbers (Some n) = IsProbeNumber n
 numbered_if : (plain fits : Bool) (n : ℕ) → between 1 16383 n ≡ fits → AllProbeNumbers (if plain && fits then Some n else None)
 numbered_if false fits n e = tt
 numbered_if true false n e = tt
-numbered_if true true n e = let low : 1 ≤ n = search (nat_tests) in let high : n ≤ 16383 = search (nat_tests) in (low, high)
+numbered_if true true n e =
+    let parts = and_parts (nat_le 1 n) (nat_le n 16383) e in
+    (leb-true 1 n parts.0, leb-true n 16383 parts.1)
 
 -- a text of a probe's number gives one, or none
 pub probe_numbered : (x : Text) → AllProbeNumbers (probe_number_of x)

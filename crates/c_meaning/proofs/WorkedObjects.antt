@@ -14,7 +14,7 @@ use Rattle.c_meaning.specs.declared.end.End.{End}
 use Rattle.c_meaning.specs.declared.end.End.TheVariants as end
 use Rattle.c_meaning.specs.Calls.{calls}
 use Rattle.c_meaning.specs.State.{begins, makes, tells, repeats}
-use Rattle.c_meaning.specs.Runs.{Outcome, run, run_heard}
+use Rattle.c_meaning.specs.Runs.{Outcome, run_heard}
 use Rattle.c_meaning.specs.Deeds.{own}
 use Rattle.c_meaning.proofs.Spelled.{p, named, a, b, f, g, i, q, v, x, y, letter, main_text, getchar_text, putchar_text, e, digit, var, set, bin, pre, dotted, at, call_of, of_one, on, does, do_it, do_block, give, star, ints, of, an_int, an_array, a_pointer, decls, main_with, program, runs}
 

@@ -1,6 +1,6 @@
 -- What stands before a node: it decides the numbers in what is told of the node, and which variable a local declarator makes, and nothing
 -- else. The numbers are those that the walk over the program gives (c_walk), of which each step here hands on one.
-use Rattle.std.specs.Prelude.{ℕ, suc, ◌+◌, List, [], ◌∷◌, Bool, true, false, if◌then◌else◌}
+use Rattle.std.specs.Prelude.{ℕ, suc, ◌+◌, Bool, true, false, if◌then◌else◌}
 use Rattle.c_base.specs.declared.place.Pos.{Pos}
 use Rattle.c_events.specs.declared.events.Cell.{Cell}
 use Rattle.c_events.specs.declared.events.Event.{Event}
@@ -10,7 +10,7 @@ use Rattle.c_store.specs.declared.value.Pointer.{Pointer}
 use Rattle.c_store.specs.Cells.{cell_of}
 use Rattle.c_walk.specs.declared.around.Around.{Around}
 use Rattle.c_walk.specs.declared.around.Taken.{Taken}
-use Rattle.c_walk.specs.Items.{Item, block, def, used, cases}
+use Rattle.c_walk.specs.Items.{cases}
 use Rattle.c_walk.specs.Tests.{is_logical, choosing, case_values}
 use Rattle.c_walk.specs.Counted.{block_count, def_count, use_count}
 use Rattle.c_walk.specs.Walked.{Walked, with_block, with_block_if, pos_of, next_decision, with_decision, inside, inside_test, with_test, with_site}

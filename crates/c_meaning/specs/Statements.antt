@@ -1,7 +1,7 @@
 -- What statements do (C89, 3.6). Each takes a turn as it begins; the event of a block comes before it.
-use Rattle.std.specs.Prelude.{ℕ, suc, ◌-◌, ◌||◌, List, [], ◌∷◌, length, map, nat_le, Bool, true, false, Some, None, if◌then◌else◌}
+use Rattle.std.specs.Prelude.{ℕ, ◌-◌, ◌||◌, List, [], ◌∷◌, length, map, nat_le, Bool, true, false, Some, None, if◌then◌else◌}
 use Rattle.c_syntax.specs.declared.tree.ProbeMark.{ProbeMark}
-use Rattle.c_syntax.specs.Shape.{NodeShape, MaybeNode, no_node, one_node, LabelShape, case, default, StmtShape, stmt, FormShape, compound, simply, when, either, while, do_while, for, switch, break, continue, return, CompoundShape, braces, ItemShapes, no_items, more_items}
+use Rattle.c_syntax.specs.Shape.{NodeShape, MaybeNode, no_node, one_node, LabelShape, StmtShape, stmt, FormShape, compound, simply, when, either, while, do_while, for, switch, break, continue, return, CompoundShape, braces, ItemShapes, no_items, more_items}
 use Rattle.c_store.specs.declared.value.Value.{Value}
 use Rattle.c_store.specs.Cells.{Cells, ended}
 use Rattle.c_tables.specs.Tables.{TablesShape}

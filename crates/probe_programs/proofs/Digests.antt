@@ -1,9 +1,8 @@
 -- The digest of a program line is spelled in bytes.
-use Rattle.std.proofs.Common.{◌≡◌, ℕ, ◌≤◌, ◌<◌, List, [], ◌∷◌, Option, Some, None, Bool, true, false, is_some, length, arith, inl, inr}
-use Rattle.std.specs.Prelude.{◌&&◌, ◌||◌, nat_eq, if◌then◌else◌}
+use Rattle.std.proofs.Common.{◌≡◌, ℕ, ◌≤◌, ◌<◌, List, [], ◌∷◌, Option, Some, None, Bool, true, false, is_some, length, refl, arith}
+use Rattle.std.specs.Prelude.{◌&&◌, ◌||◌, nat_eq, nat_le, if◌then◌else◌}
 use Rattle.std.specs.List.{list_all}
-use Rattle.std.proofs.lemmas.Bool.{and_parts}
-use Rattle.std.proofs.lemmas.Bool.Decides.{nat_tests}
+use Rattle.std.proofs.lemmas.Bool.{and_parts, leb-true}
 use Rattle.c_syntax.specs.declared.text.Text.{Text}
 use Rattle.c_lex_pieces.specs.Bytes.{between}
 use Rattle.c_lex_pieces.specs.Written.{AreBytes}
@@ -11,8 +10,8 @@ use Rattle.c_constants.specs.Probes.{is_lower_digit, is_digest, digest_of}
 use Rattle.probe_programs.specs.Programs.{IsDigest}
 
 either_byte : (digit letter : Bool) (b : ℕ) → between 48 57 b ≡ digit → between 97 102 b ≡ letter → (digit || letter) ≡ true → b < 256
-either_byte true letter b d l h = let fits : b ≤ 57 = search (nat_tests) in omega (arith, fits)
-either_byte false true b d l h = let fits : b ≤ 102 = search (nat_tests) in omega (arith, fits)
+either_byte true letter b d l h = let fits = leb-true b 57 (and_parts (nat_le 48 b) (nat_le b 57) d).1 in omega (arith, fits)
+either_byte false true b d l h = let fits = leb-true b 102 (and_parts (nat_le 97 b) (nat_le b 102) l).1 in omega (arith, fits)
 either_byte false false b d l h = cc
 
 all_bytes : (text : List ℕ) → list_all is_lower_digit text ≡ true → AreBytes text
