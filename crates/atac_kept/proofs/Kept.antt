@@ -41,9 +41,9 @@ use Rattle.atac_programs.specs.Sections.{section_text}
 use Rattle.atac_base.specs.Outside.{ShelfState, SinkState}
 use Rattle.trace_file.specs.declared.trace.Trace.{Trace}
 use Rattle.atac_words.specs.Words.{Run, RunInto}
-use Rattle.atac_top.specs.Claims.{Shows}
-use Rattle.atac_top.specs.Runs.{Handed}
-use Rattle.atac_top.specs.Readings.{IsRunMore}
+use Rattle.atac_commands.specs.Claims.{Shows}
+use Rattle.atac_commands.specs.Runs.{Handed}
+use Rattle.atac_commands.specs.Readings.{IsRunMore}
 use Rattle.atac_kept.specs.Kept.{KeptTextsRunAsPrograms, RunShows, RunIntoShows, KeptTextsShowPrograms, KeptTextsRecordPrograms}
 use Rattle.atac_kept.proofs.Digests.{digest_bytes_so}
 use Rattle.atac_kept.proofs.Owned.{owned_same}

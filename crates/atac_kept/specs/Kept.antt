@@ -11,9 +11,9 @@ use Rattle.trace_file.specs.Layout.{bytes_of}
 use Rattle.trace_file.specs.declared.trace.Trace.{Trace}
 use Rattle.atac_base.specs.Outside.{ShelfState, SinkState}
 use Rattle.atac_programs.specs.Programs.{IsInstrumented, IsProbed, program_in, section, events, shown_by, met_by}
-use Rattle.atac_top.specs.Claims.{IsHeld, IsRunnable, HoldsOld, KeptUnder}
-use Rattle.atac_top.specs.Answers.{input_most}
-use Rattle.atac_top.specs.Readings.{IsRunMore}
+use Rattle.atac_commands.specs.Claims.{IsHeld, IsRunnable, HoldsOld, KeptUnder}
+use Rattle.atac_commands.specs.Answers.{input_most}
+use Rattle.atac_commands.specs.Readings.{IsRunMore}
 
 -- the text is one program with probes alone, behind a line with that digest, with the sections, the events and the facts of the
 -- program's own runs

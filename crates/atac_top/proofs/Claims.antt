@@ -11,21 +11,21 @@ use Rattle.c_meaning.specs.Calls.{Source}
 use Rattle.atac_words.specs.Words.{Command, Check, ListItems, Instrument, Cover, Run, RunInto, Merge, Tell, Pick, Watch, SelfCover}
 use Rattle.atac_steps.specs.Ends.{End, IsDone, BadWords, NotAccepted, NotHeld, TooLong, NoTrace, ReadFailed, WriteFailed, KeepFailed, NotWatched, OutOfMemory, status_of}
 use Rattle.atac_programs.specs.Programs.{IsAccepted, HasItems, IsProbed, IsListing, program_in, Counts, counts_of, counts_text, section, report, events, all_events}
-use Rattle.atac_top.specs.Readings.{Reading, Refuses, Counted, Listed, Runs, Covers, Probes, Viewed, Merges, Records, Picks, Watches, Sums, IsUnderstood, counter_name, summary}
-use Rattle.atac_top.specs.Answers.{Answer, asked, names, joined, text, refused, given, covering, input_most}
+use Rattle.atac_commands.specs.Readings.{Reading, Refuses, Counted, Listed, Runs, Covers, Probes, Viewed, Merges, Records, Picks, Watches, Sums, IsUnderstood, counter_name, summary}
+use Rattle.atac_commands.specs.Answers.{Answer, asked, names, joined, text, refused, given, covering, input_most}
 use Rattle.atac_steps.specs.Got.{gets, Gets, AllAgree}
-use Rattle.atac_top.specs.Runs.{Handed, IsOfGot, Understands, UnderstandsWith, Breaks, AnswersBy, Keeps, GoesBy, GoesWith}
-use Rattle.atac_top.specs.Runs as whole
-use Rattle.atac_top.specs.Claims.{IsHeld, AreHeld, Passes, IsRunnable, Supposes, IsWatched, sections, Shows, NoFault}
+use Rattle.atac_commands.specs.Runs.{Handed, IsOfGot, Understands, UnderstandsWith, Breaks, AnswersBy, Keeps, GoesBy, GoesWith}
+use Rattle.atac_commands.specs.Runs as whole
+use Rattle.atac_commands.specs.Claims.{IsHeld, AreHeld, Passes, IsRunnable, Supposes, IsWatched, sections, Shows, NoFault}
 use Rattle.atac_steps.specs.declared.status.Status.{Status}
 use Rattle.atac_steps.specs.declared.status.Status.TheVariants.{Done, Usage, NoMemory}
 use Rattle.atac_programs.proofs.Same.{same_counts, same_source, not_rejected, not_unlisted, not_unread, one_probed, has_moved}
-use Rattle.atac_top.proofs.Sure.{IsSure, got}
+use Rattle.atac_commands.proofs.Sure.{IsSure, got}
 use Rattle.atac_self.specs.Generation.{program_text, input_bytes}
-use Rattle.atac_top.proofs.Picked.{IsPickedSo, picked_done, picked_so}
-use Rattle.atac_top.proofs.Watched.{watched_done, watched_so, summed_done, summed_so}
+use Rattle.atac_commands.proofs.Picked.{IsPickedSo, picked_done, picked_so}
+use Rattle.atac_commands.proofs.Watched.{watched_done, watched_so, summed_done, summed_so}
 use Rattle.atac_top.proofs.Traced.{written_done, written_answer, told_done, told_text, merged_done, merged_answer, into_done, into_answer, kept_so}
-use Rattle.atac_top.proofs.Asked.{cover_goes, cover_refused, run_done, run_text, check_done, list_done, list_refused}
+use Rattle.atac_commands.proofs.Asked.{cover_goes, cover_refused, run_done, run_text, check_done, list_done, list_refused}
 
 module _ (U : List (Option (List ℕ)) → Reading → Type 0) (c : Option Command) (shelf shelf' : ShelfState) (out out' : SinkState) (found : List (Option (List ℕ))) (put : List ℕ) (fine : NoFault shelf shelf' out out') where
   -- where the call breaks off at its program, memory was wanted, or a count rose

@@ -1,16 +1,3 @@
-pub mod Asked
-pub mod Claims
-pub mod Course
-pub mod Exits
-pub mod Inputs
 pub mod Lines
-pub mod Joined
-pub mod Sums
-pub mod Told
-pub mod Merged
-pub mod Into
-pub mod Sure
 pub mod Traced
-pub mod Picked
-pub mod Watched
-pub mod Gathered
+pub mod Claims

@@ -5,9 +5,9 @@ use Rattle.std.specs.Io.KnownBytes.{append_known}
 use Rattle.atac_base.specs.Outside.{SinkState, Counts, Rose, IsFront}
 use Rattle.atac_base.specs.declared.outside.PutErr.{PutErr}
 use Rattle.atac_base.specs.declared.outside.PutErr.TheVariants.{Failed, NoMemory}
-use Rattle.atac_top.specs.Runs.{Tells}
+use Rattle.atac_commands.specs.Runs.{Tells}
 use Rattle.atac_steps.specs.Grows.{SinkGrows}
-use Rattle.atac_top.proofs.Exits.{known_twice, front_of}
+use Rattle.atac_commands.proofs.Exits.{known_twice, front_of}
 use Rattle.atac_steps.proofs.Growing.{rose_since, sink_goes_on}
 
 -- what a put said that failed

@@ -24,15 +24,15 @@ use Rattle.atac_traces.specs.Files.{Read, Has, Bad, IsFaulty, trace_most}
 use Rattle.atac_traces.specs.Totals.{IsSum}
 use Rattle.atac_traces.proofs.One.{accepts_one, not_faulty}
 use Rattle.atac_programs.specs.Programs.{IsAccepted, HasItems, IsProbed, IsRecorded, program_in, with_probes, not_plain, too_large, not_read, not_probed, section, met_by}
-use Rattle.atac_top.specs.Readings.{IsRunMore, Reading, Refuses, Counted, Listed, Runs, Covers, Probes, Viewed, Merges, Records, Picks, Watches, Sums, IsUnderstood, view_text, runs_text}
-use Rattle.atac_top.specs.Answers.{Answer, asked, names, text, refused, given, next_read, joining, keeping, old_read, old_given, input_most}
-use Rattle.atac_top.specs.Runs.{IsOfGot, IsReadIn, AreRead, AreToldOf, AreMerged, IsOwn, OldIs, IsRunInto, OfOthers, Understands, Keeps}
-use Rattle.atac_top.specs.Claims.{IsHeld, Passes, IsRunnable, HoldTraces, HoldsOld, IsFewBytes, KeptUnder}
+use Rattle.atac_commands.specs.Readings.{IsRunMore, Reading, Refuses, Counted, Listed, Runs, Covers, Probes, Viewed, Merges, Records, Picks, Watches, Sums, IsUnderstood, view_text, runs_text}
+use Rattle.atac_commands.specs.Answers.{Answer, asked, names, text, refused, given, next_read, joining, keeping, old_read, old_given, input_most}
+use Rattle.atac_commands.specs.Runs.{IsOfGot, IsReadIn, AreRead, AreToldOf, AreMerged, IsOwn, OldIs, IsRunInto, OfOthers, Understands, Keeps}
+use Rattle.atac_commands.specs.Claims.{IsHeld, Passes, IsRunnable, HoldTraces, HoldsOld, IsFewBytes, KeptUnder}
 use Rattle.atac_programs.proofs.Same.{same_source, not_rejected, not_unlisted, not_unread, one_probed, has_moved}
-use Rattle.atac_top.proofs.Sure.{IsSure, got}
-use Rattle.atac_top.proofs.Asked.{instrument_done, instrument_refused, tell_goes, tell_refused, into_goes}
-use Rattle.atac_top.proofs.Exits.{kept_answer}
-use Rattle.atac_top.proofs.Sums.{keeping_small}
+use Rattle.atac_commands.proofs.Sure.{IsSure, got}
+use Rattle.atac_commands.proofs.Asked.{instrument_done, instrument_refused, tell_goes, tell_refused, into_goes}
+use Rattle.atac_commands.proofs.Exits.{kept_answer}
+use Rattle.atac_commands.proofs.Sums.{keeping_small}
 
 -- what a call that is done keeps
 pub kept_so : (name bytes : List ℕ) (kept : Option (List ℕ × List ℕ)) (shelf shelf' : ShelfState) → kept ≡ Some (name, bytes) → Keeps kept IsDone shelf shelf' → KeptUnder shelf shelf' name bytes

@@ -6,15 +6,15 @@ ghost use Rattle.atac_programs.specs.Programs.{IsAccepted, program_in};
 ghost use Rattle.atac_words.specs.Words.{reads};
 ghost use Rattle.atac_steps.specs.Ends.{line_of, file_of, said_of};
 ghost use Rattle.atac_steps.specs.Stops.{end_of};
-ghost use Rattle.atac_top.specs.Runs.{Runs, Tells, handed};
-ghost use Rattle.atac_top.specs.Claims.{Supposes, IsWatched, Shows, NoFault};
+ghost use Rattle.atac_commands.specs.Runs.{Runs, Tells, handed};
+ghost use Rattle.atac_commands.specs.Claims.{Supposes, IsWatched, Shows, NoFault};
 ghost use Rattle.c_events.specs.declared.events.Event.{Event};
 ghost use Rattle.atac_facts.specs.declared.fact.Fact.{Fact};
 ghost use Rattle.cover_parts.specs.Covered.{Covered};
 ghost use Rattle.cover_law.specs.Covers.{covers};
 
-use crate::commands::carry_out;
 use atac_base::outside::{PutErr, Shelf, Sink};
+use atac_commands::carry_out;
 use atac_steps::{Status, Stop, fetch, put};
 use atac_words::read_words;
 use probe_watch::Watcher;

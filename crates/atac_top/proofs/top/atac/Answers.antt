@@ -1,13 +1,13 @@
 -- The whole runs at the three ends, and completeness from the run.
 use Rattle.std.proofs.Common.{refl, inl, inr, []}
 use Rattle.atac_steps.specs.Ends.{IsDone, BadWords}
-use Rattle.atac_top.specs.Readings.{Refuses}
+use Rattle.atac_commands.specs.Readings.{Refuses}
 use Rattle.atac_words.specs.Stops.{command_of}
 use Rattle.atac_steps.specs.Stops.{end_of}
 use Rattle.atac_programs.proofs.Same.{same_source}
 use Rattle.atac_top.proofs.Claims.{complete_for, shows}
-use Rattle.atac_top.proofs.Watched.{handed_in}
-use Rattle.atac_top.proofs.Exits.{known_nothing}
+use Rattle.atac_commands.proofs.Watched.{handed_in}
+use Rattle.atac_commands.proofs.Exits.{known_nothing}
 use Rattle.atac_steps.proofs.Growing.{shelf_stays, sink_stays}
 use Rattle.atac_top.proofs.top.atac.Goals as goal
 

@@ -1,0 +1,13 @@
+pub mod Asked
+pub mod Course
+pub mod Exits
+pub mod Inputs
+pub mod Joined
+pub mod Sums
+pub mod Told
+pub mod Merged
+pub mod Into
+pub mod Sure
+pub mod Picked
+pub mod Watched
+pub mod Gathered
