@@ -135,12 +135,12 @@ Shows ws (Run limit program input) shelf shelf' out out' =
     (p : IsRunnable (shelf.says program)) (i : IsHeld (shelf.says input) input_most) → out'.bytes ≡ append_known out.bytes (section input p.program i.bytes limit)
 Shows ws (RunInto limit program input trace) shelf shelf' out out' =
     (p : IsRunnable (shelf.says program)) (i : IsHeld (shelf.says input) input_most) (digest : List ℕ) → digest_in p.program.unit.line ≡ Some digest → (old : Trace) → HoldsOld digest (shelf.says trace) old
-    → (new : Trace) × IsRunMore old new (met_by p.program limit i.bytes)
+    → (new : Trace) × IsRunMore old new (met_by p.program limit i.bytes) × IsFewBytes new
     × (out'.bytes ≡ append_known out.bytes (section input p.program i.bytes limit)) × KeptUnder shelf shelf' trace (bytes_of new)
 Shows ws (Merge name []) shelf shelf' out out' = Unit {0}
 Shows ws (Merge name (first ∷ rest)) shelf shelf' out out' =
     (digest : List ℕ) (ts : List Trace) → HoldTraces digest shelf.says (first ∷ rest) ts
-    → (sum : Trace) × IsSum digest ts sum × (out'.bytes ≡ append_known out.bytes (runs_text sum)) × KeptUnder shelf shelf' name (bytes_of sum)
+    → (sum : Trace) × IsSum digest ts sum × IsFewBytes sum × (out'.bytes ≡ append_known out.bytes (runs_text sum)) × KeptUnder shelf shelf' name (bytes_of sum)
 Shows ws (Tell view program traces) shelf shelf' out out' =
     (p : Passes (shelf.says program)) (ts : List Trace) → HoldTraces (sha256 p.held.bytes) shelf.says traces ts
     → (items : ItemLists) × HasItems p.accepted items × (out'.bytes ≡ append_known out.bytes (view_text view p.held.bytes items ts))

@@ -1,10 +1,7 @@
--- A kept text is read as its program with probes but for places, which runs as the program; so `run` on it says what the program's run says.
-use Rattle.std.specs.Io.KnownBytes.{append_known}
-use Rattle.std.specs.Prelude.{cond, nat_lt, min, if◌then◌else◌}
-use Rattle.std.proofs.Common.{◌≡◌, ◌≤◌, ◌+◌, ℕ, List, length, Option, Some, None, Bool, true, false, is_some, option_map, ◌∙◌, refl, sym, ap, ap₂, subst, arith}
+-- A kept text is read as its program with probes but for places, which runs as the program.
+use Rattle.std.specs.Prelude.{cond, nat_lt}
+use Rattle.std.proofs.Common.{◌≡◌, ℕ, List, length, Option, Some, None, Bool, true, false, is_some, option_map, ◌∙◌, refl, sym, ap, ap₂, subst, arith}
 use Rattle.std.proofs.lemmas.Bool.Decides.{nat_tests}
-use Rattle.atac_facts.specs.Sums.{most}
-use Rattle.atac_facts.specs.Tallies.{count_of}
 use Rattle.c_lex_pieces.specs.Written.{AreBytes}
 use Rattle.c_lex.specs.declared.lexer.TextKind.TheVariants.{Plain}
 use Rattle.c_lex.proofs.Soundness.{given_is_sound}
@@ -38,13 +35,7 @@ use Rattle.probe_kept.specs.Kept.{RunsAs}
 use Rattle.probe_kept.proofs.Kept.{kept_runs}
 use Rattle.atac_programs.specs.Programs.{IsAccepted, IsInstrumented, IsProbed, program_in, with_probes, events, shown_by, met_by, owner_in_probed}
 use Rattle.atac_programs.specs.Sections.{section_text}
-use Rattle.atac_base.specs.Outside.{ShelfState, SinkState}
-use Rattle.trace_file.specs.declared.trace.Trace.{Trace}
-use Rattle.atac_words.specs.Words.{Run, RunInto}
-use Rattle.atac_commands.specs.Claims.{Shows}
-use Rattle.atac_commands.specs.Runs.{Handed}
-use Rattle.atac_commands.specs.Readings.{IsRunMore}
-use Rattle.atac_kept.specs.Kept.{KeptTextsRunAsPrograms, RunShows, RunIntoShows, KeptTextsShowPrograms, KeptTextsRecordPrograms}
+use Rattle.atac_kept.specs.Kept.{KeptTextsRunAsPrograms}
 use Rattle.atac_kept.proofs.Digests.{digest_bytes_so}
 use Rattle.atac_kept.proofs.Owned.{owned_same}
 
@@ -116,38 +107,3 @@ kept_texts_run source text bytes k =
           ap (λ log. covers (owner_in_probed Q) log f) (ap (λ (o : Outcome). o.log) (r.runs given limit))
           ∙ same_owners (owner_in_probed Q) (owner_in_program P) (λ u. owner_at Q P source u equal a.clean) (events P limit given) f;
     }
-
--- ---- what `run` puts and keeps
-
--- the contract of the call says so of both commands
-run_shows : (ws : Handed) (limit : ℕ) (name input : List ℕ) (shelf shelf' : ShelfState) (out out' : SinkState) → Shows ws (Run limit name input) shelf shelf' out out' → RunShows limit name input shelf out out'
-run_shows ws limit name input shelf shelf' out out' shows = shows
-
-run_into_shows : (ws : Handed) (limit : ℕ) (name input trace : List ℕ) (shelf shelf' : ShelfState) (out out' : SinkState) → Shows ws (RunInto limit name input trace) shelf shelf' out out' → RunIntoShows limit name input trace shelf shelf' out out'
-run_into_shows ws limit name input trace shelf shelf' out out' shows = shows
-
-short_so : (source text : List ℕ) (k : IsInstrumented source text) → length text ≤ 67108864
-short_so source text k = subst (λ t. length t ≤ 67108864) (sym k.is) k.fits.text
-
-pub kept_texts_show : KeptTextsShowPrograms
-kept_texts_show source text bytes k limit name input shelf out out' held shows i =
-    let kept = kept_texts_run source text bytes k in
-    shows (record { held = record { bytes = text; is = held; short = short_so source text k }; program = kept.program; read = kept.read }) i
-    ∙ ap (append_known out.bytes) (kept.same input i.bytes limit)
-
--- a run more, with facts that are the same
-more_same : (old new : Trace) (met shown : Fact → Bool) → ((f : Fact) → met f ≡ shown f) → IsRunMore old new met → IsRunMore old new shown
-more_same old new met shown same more = record {
-  digest = more.digest;
-  runs = more.runs;
-  old_runs = more.old_runs;
-  counts = λ f fit. more.counts f fit ∙ ap (λ b. min (count_of old.tally f + (if b then 1 else 0)) most) (same f);
-  rows = more.rows;
-}
-
-pub kept_texts_record : KeptTextsRecordPrograms
-kept_texts_record source text bytes k limit name input trace shelf shelf' out out' held shows i old holds =
-    let kept = kept_texts_run source text bytes k in
-    let P = program_in k.accepted in
-    let r = shows (record { held = record { bytes = text; is = held; short = short_so source text k }; program = kept.program; read = kept.read }) i (sha256 source) kept.line old holds in
-    (r.0, more_same old r.0 (met_by kept.program limit i.bytes) (shown_by P limit i.bytes) (kept.met i.bytes limit) r.1, r.3)

@@ -1,3 +1,5 @@
 mod Digests
 mod Owned
 pub mod Kept
+pub mod Recorded
+pub mod Commands

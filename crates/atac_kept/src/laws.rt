@@ -1,6 +1,8 @@
 //! The laws, as contracts.
 
-ghost use Rattle.atac_kept.specs.Kept.{KeptTextsRunAsPrograms, KeptTextsShowPrograms, KeptTextsRecordPrograms};
+ghost use Rattle.atac_kept.specs.Kept.{KeptTextsRunAsPrograms};
+ghost use Rattle.atac_kept.specs.Commands.{CommandsSpeakOfPrograms};
+ghost use Rattle.atac_kept.specs.Recorded.{OneMoreRunIsCounted, TracesTellOfRuns, SumsCountRuns};
 
 /// A text that is kept of an accepted program is read as one program with probes alone, whose runs have the sections of the
 /// program's own runs, and log its events.
@@ -9,12 +11,17 @@ pub fn kept_texts_run_as_programs()
     ensures { KeptTextsRunAsPrograms }
 {}
 
-/// So `run` on such a text puts the section of the program's own run.
-pub fn kept_texts_show_programs()
-    ensures { KeptTextsShowPrograms }
+/// One more run of such a program makes a trace that counts it; traces that count runs tell what these runs show; and their
+/// sum is a trace of all of these runs.
+#[tactic(auto, using(crate::proofs::Recorded::one_more_run_is_counted, crate::proofs::Recorded::traces_tell_of_runs, crate::proofs::Recorded::sums_count_runs))]
+pub fn runs_are_counted()
+    ensures one { OneMoreRunIsCounted }
+    ensures all { TracesTellOfRuns }
+    ensures sum { SumsCountRuns }
 {}
 
-/// And the trace that it keeps is the old one with one run more, in which the facts of the program's own run were met.
-pub fn kept_texts_record_programs()
-    ensures { KeptTextsRecordPrograms }
+/// So what the commands show of a kept text and of traces is what the program's own runs show.
+#[tactic(auto, using(crate::proofs::Commands::commands_speak_of_programs))]
+pub fn commands_speak_of_programs()
+    ensures { CommandsSpeakOfPrograms }
 {}

@@ -406,11 +406,11 @@ shows ws (Merge name []) shelf shelf' out out' end h is = tt
 shows ws (Merge name (first ∷ rest)) shelf shelf' out out' end h is = λ digest ts held.
     let d = done_put _ (Some (Merge name (first ∷ rest))) shelf shelf' out out' end h is in
     let t = merged_answer name first rest shelf.says h.found d.reading h.agrees d.understood.0 d.end digest ts held in
-    (t.sum, t.is, h.bytes ∙ ap (append_known out.bytes) (d.put ∙ ap (λ (x : Answer). text x) t.answer), kept_so _ _ _ shelf shelf' (ap (λ (x : Answer). x.kept) t.answer) d.keeps)
+    (t.sum, t.is, t.few, h.bytes ∙ ap (append_known out.bytes) (d.put ∙ ap (λ (x : Answer). text x) t.answer), kept_so _ _ _ shelf shelf' (ap (λ (x : Answer). x.kept) t.answer) d.keeps)
 shows ws (RunInto n program input trace) shelf shelf' out out' end h is = λ p i digest line old holds.
     let d = done_put _ (Some (RunInto n program input trace)) shelf shelf' out out' end h is in
     let t = into_answer n program input trace shelf.says h.found d.reading h.agrees d.understood.0 d.end p i digest line old holds in
-    (t.new, t.is, h.bytes ∙ ap (append_known out.bytes) (d.put ∙ ap (λ (x : Answer). text x) t.answer), kept_so _ _ _ shelf shelf' (ap (λ (x : Answer). x.kept) t.answer) d.keeps)
+    (t.new, t.is, t.few, h.bytes ∙ ap (append_known out.bytes) (d.put ∙ ap (λ (x : Answer). text x) t.answer), kept_so _ _ _ shelf shelf' (ap (λ (x : Answer). x.kept) t.answer) d.keeps)
 shows ws (Pick n program inputs) shelf shelf' out out' end h is = λ p all held.
     let d = done_put _ (Some (Pick n program inputs)) shelf shelf' out out' end h is in
     let t = picked_text n program inputs shelf.says h.found d.reading h.agrees d.understood.0 d.end p all held in

@@ -199,6 +199,15 @@ keeping_done name t rest done = by (leb (length (bytes_of t)) trace_most) refl
         let e : keeping name (Some t) rest ≡ refused [] (NoTrace name TooMuch) = ap (λ b. cond b (kept_answer name (bytes_of t) (rest t)) (refused [] (NoTrace name TooMuch))) is in
         absurd (not_done _ _ e done (λ e. cc))
 
+keeping_few : (name : List ℕ) (t : Trace) (rest : Trace → List ℕ) → (keeping name (Some t) rest).end ≡ IsDone → IsFewBytes t
+keeping_few name t rest done = by (leb (length (bytes_of t)) trace_most) refl
+  where
+    by : (b : Bool) → leb (length (bytes_of t)) trace_most ≡ b → IsFewBytes t
+    by true is = leb-true _ _ is
+    by false is =
+        let e : keeping name (Some t) rest ≡ refused [] (NoTrace name TooMuch) = ap (λ b. cond b (kept_answer name (bytes_of t) (rest t)) (refused [] (NoTrace name TooMuch))) is in
+        absurd (not_done _ _ e done (λ e. cc))
+
 -- ---- `merge`
 
 same_traces : (a b : List Trace) → map Has a ≡ map Has b → a ≡ b
@@ -264,6 +273,7 @@ sum_is names found reads s m digest ts same are =
 pub record IsMergedSo (name : List ℕ) (digest : List ℕ) (ts : List Trace) (a : Answer) : Type 0 where
   pub sum : Trace
   pub is : IsSum digest ts sum
+  pub few : IsFewBytes sum
   pub answer : a ≡ kept_answer name (bytes_of sum) (runs_text sum)
 
 merged_sure : (out first : List ℕ) (rest : List (List ℕ)) (f : Option (List ℕ)) (found : List (Option (List ℕ))) (reads : List Read) (sum : Option Trace) (m : AreMerged (first ∷ rest) (f ∷ found) reads sum) (digest : List ℕ) (ts : List Trace) → ((s : Trace) → IsSum digest ts s → IsFewBytes s) → (a : Answer)
@@ -278,7 +288,13 @@ merged_so : (out first : List ℕ) (rest : List (List ℕ)) (f : Option (List �
 merged_so out first rest f found reads sum m digest ts a done (inr h) = absurd (bad_not_done a h done)
 merged_so out first rest f found reads None m digest ts a done (inl h) = absurd (bad_not_done a (ap (λ (x : Answer). x.end) h.0) done)
 merged_so out first rest f found reads (Some s) m digest ts a done (inl h) =
-    record { sum = s; is = sum_is (first ∷ rest) (f ∷ found) reads s m digest ts h.1 h.2; answer = h.0 ∙ keeping_done out s runs_text (sym (ap (λ (x : Answer). x.end) h.0) ∙ done) }
+    let ends = sym (ap (λ (x : Answer). x.end) h.0) ∙ done in
+    record {
+      sum = s;
+      is = sum_is (first ∷ rest) (f ∷ found) reads s m digest ts h.1 h.2;
+      few = keeping_few out s runs_text ends;
+      answer = h.0 ∙ keeping_done out s runs_text ends;
+    }
 
 pub merged_done : (out first : List ℕ) (rest : List (List ℕ)) (says : List ℕ → Said) (found : List (Option (List ℕ))) (u : Reading) → AllAgree says (first ∷ rest) found → (digest : List ℕ) (ts : List Trace) → HoldTraces digest says (first ∷ rest) ts → ((s : Trace) → IsSum digest ts s → IsFewBytes s)
     → Understands (Some (Merge out (first ∷ rest))) found u → IsSure (asked (Some (Merge out (first ∷ rest))) u found).end
@@ -383,6 +399,7 @@ run_more n input i t bytes P Q found old new same h into is =
 pub record IsRanSo (n : ℕ) (input trace : List ℕ) (P : Source) (bytes : List ℕ) (old : Trace) (a : Answer) : Type 0 where
   pub new : Trace
   pub is : IsRunMore old new (met_by P n bytes)
+  pub few : IsFewBytes new
   pub answer : a ≡ kept_answer trace (bytes_of new) (section input P bytes n)
 
 ran_sure : (n : ℕ) (input trace : List ℕ) (i : Option (List ℕ)) (t : Got) (bytes : List ℕ) (P Q : Source) (found : Option Read) (old : Trace) (new : Option Trace) → Q ≡ P → gets input input_most i ≡ Gets bytes → (into : IsRunInto n Q (gets input input_most i) t found new)
@@ -400,6 +417,7 @@ ran_so n input trace i t bytes P Q found old (Some m) same h into a done (inl k)
     record {
       new = m;
       is = run_more n input i t bytes P Q found old m same h into k.1;
+      few = keeping_few trace m (λ x. section input Q bytes n) (sym (ap (λ (x : Answer). x.end) k.0) ∙ done);
       answer =
           k.0 ∙ keeping_done trace m (λ x. section input Q bytes n) (sym (ap (λ (x : Answer). x.end) k.0) ∙ done)
           ∙ ap (λ (x : Source). kept_answer trace (bytes_of m) (section input x bytes n)) same;

@@ -8,6 +8,7 @@ ghost use Rattle.atac_steps.specs.Ends.{line_of, file_of, said_of};
 ghost use Rattle.atac_steps.specs.Stops.{end_of};
 ghost use Rattle.atac_commands.specs.Runs.{Runs, Tells, handed};
 ghost use Rattle.atac_commands.specs.Claims.{Supposes, IsWatched, Shows, NoFault};
+ghost use Rattle.atac_kept.specs.Commands.{ShowsKept};
 ghost use Rattle.c_events.specs.declared.events.Event.{Event};
 ghost use Rattle.atac_facts.specs.declared.fact.Fact.{Fact};
 ghost use Rattle.cover_parts.specs.Covered.{Covered};
@@ -90,6 +91,12 @@ pub fn atac<S: Shelf, W: Sink, E: Sink>(
     // language has them, and the report of what these show; what is told of traces; the text with probes; the new trace.
     ensures headline { result ≡ Status.Done → IfSome (reads (map string_bytes words.now.items)) (λ command.
         Shows (handed (λ w. called w) (λ w. stands_for w) (λ w. text_of w) watchers.items) command (S.state shelf.old) (S.state shelf.new) (W.state out.old) (W.state out.new)) }
+
+    // And what is said of a text that `instrument` kept is what its program says: `run` of it puts the section of the program's own
+    // run, and keeps a trace that counts this run besides those so far; `merge` keeps a trace of all the runs of its traces; and what
+    // is told of traces of a program's own runs is what these runs show.
+    ensures kept { result ≡ Status.Done → IfSome (reads (map string_bytes words.now.items)) (λ command.
+        ShowsKept command (S.state shelf.old) (S.state shelf.new) (W.state out.old) (W.state out.new)) }
 
     // A text is one program at most.
     ensures one_program { (source : List ℕ) (a b : IsAccepted source) → program_in b ≡ program_in a }

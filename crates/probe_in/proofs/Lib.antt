@@ -1,6 +1,5 @@
 pub mod Lists
 pub mod Stated
 pub mod Functions
-pub mod Copied
 pub mod Digests
 pub mod Programs

@@ -6,7 +6,6 @@ mod declarations;
 mod defining;
 mod program;
 mod statements;
-mod tables;
 mod unit;
 
 pub use program::instrument;

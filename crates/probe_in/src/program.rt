@@ -13,9 +13,9 @@ ghost use Rattle.probe_rules.specs.Instrumented.{instrumented};
 ghost use Rattle.probe_rules.specs.Simulation.{Simulates};
 ghost use Rattle.probe_laws.specs.Owners.{owner_in_program};
 
-use crate::tables::copy_tables;
 use crate::unit::instrumented;
 use c_base::place::NoMemory;
+use c_copy_tables::copy_tables;
 use c_sites::Sites;
 use c_syntax::text::Text;
 use c_tree::program::Program;

@@ -5,6 +5,7 @@ use Rattle.atac_commands.specs.Readings.{Refuses}
 use Rattle.atac_words.specs.Stops.{command_of}
 use Rattle.atac_steps.specs.Stops.{end_of}
 use Rattle.atac_programs.proofs.Same.{same_source}
+use Rattle.atac_kept.proofs.Commands.{commands_speak_of_programs}
 use Rattle.atac_top.proofs.Claims.{complete_for, shows}
 use Rattle.atac_commands.proofs.Watched.{handed_in}
 use Rattle.atac_commands.proofs.Exits.{known_nothing}
@@ -41,6 +42,11 @@ returns-in-Err-clause-complete g c =
 pub returns-in-Ok-clause-headline : goal.returns-in-Ok-clause-headline
 returns-in-Ok-clause-headline g c = λ is.
     rw (← c.in-Some.ensures.command) (shows (handed_in c.args.watchers.items (λ w. (g.dyn-1.0.entry w.vtable).1.called w.value) (λ w. (g.dyn-1.0.entry w.vtable).1.stands_for w.value) (λ w. (g.dyn-1.0.entry w.vtable).1.text_of w.value)) (command_of c.in-Some.asked) _ _ _ _ IsDone c.in-Ok.ensures refl)
+
+pub returns-in-Ok-clause-kept : goal.returns-in-Ok-clause-kept
+returns-in-Ok-clause-kept g c = λ is.
+    let ws = handed_in c.args.watchers.items (λ w. (g.dyn-1.0.entry w.vtable).1.called w.value) (λ w. (g.dyn-1.0.entry w.vtable).1.stands_for w.value) (λ w. (g.dyn-1.0.entry w.vtable).1.text_of w.value) in
+    rw (← c.in-Some.ensures.command) (commands_speak_of_programs ws (command_of c.in-Some.asked) _ _ _ _ (shows ws (command_of c.in-Some.asked) _ _ _ _ IsDone c.in-Ok.ensures refl))
 
 pub returns-in_default-clause-one_program : goal.returns-in_default-clause-one_program
 returns-in_default-clause-one_program g c = same_source

@@ -1,7 +1,7 @@
 use Rattle.std.proofs.Common.{◌+◌, ◌-◌, refl, arith}
 use Rattle.c_tables.specs.Tables.{StructShape, tables_shape}
-use Rattle.probe_in.proofs.Copied.{Listed, one_more}
-use Rattle.probe_in.proofs.tables.copy_structures.Goals as goal
+use Rattle.c_copy_tables.proofs.Copied.{Listed, one_more}
+use Rattle.c_copy_tables.proofs.tables.copy_structures.Goals as goal
 
 abbrev structures : Listed StructShape
 structures = record { list = λ t. t.structures; with = λ rows t. record t { structures = rows }; has = λ rows t. refl; last = λ rows before t. refl }

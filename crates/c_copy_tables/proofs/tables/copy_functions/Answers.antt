@@ -1,7 +1,7 @@
 use Rattle.std.proofs.Common.{◌+◌, ◌-◌, refl, arith}
 use Rattle.c_tables.specs.Tables.{FunctionShape, tables_shape}
-use Rattle.probe_in.proofs.Copied.{Listed, one_more}
-use Rattle.probe_in.proofs.tables.copy_functions.Goals as goal
+use Rattle.c_copy_tables.proofs.Copied.{Listed, one_more}
+use Rattle.c_copy_tables.proofs.tables.copy_functions.Goals as goal
 
 abbrev functions : Listed FunctionShape
 functions = record { list = λ t. t.functions; with = λ rows t. record t { functions = rows }; has = λ rows t. refl; last = λ rows before t. refl }

@@ -1,8 +1,8 @@
 use Rattle.std.proofs.Common.{◌+◌, ◌-◌, refl, arith}
 use Rattle.c_syntax.specs.declared.text.Text.{Text}
 use Rattle.c_tables.specs.Tables.{tables_shape}
-use Rattle.probe_in.proofs.Copied.{Listed, one_more}
-use Rattle.probe_in.proofs.tables.copy_literals.Goals as goal
+use Rattle.c_copy_tables.proofs.Copied.{Listed, one_more}
+use Rattle.c_copy_tables.proofs.tables.copy_literals.Goals as goal
 
 abbrev literals : Listed Text
 literals = record { list = λ t. t.literals; with = λ rows t. record t { literals = rows }; has = λ rows t. refl; last = λ rows before t. refl }

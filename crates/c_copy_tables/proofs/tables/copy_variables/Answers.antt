@@ -1,7 +1,7 @@
 use Rattle.std.proofs.Common.{◌+◌, ◌-◌, refl, arith}
 use Rattle.c_tables.specs.Tables.{VariableShape, tables_shape}
-use Rattle.probe_in.proofs.Copied.{Listed, one_more}
-use Rattle.probe_in.proofs.tables.copy_variables.Goals as goal
+use Rattle.c_copy_tables.proofs.Copied.{Listed, one_more}
+use Rattle.c_copy_tables.proofs.tables.copy_variables.Goals as goal
 
 abbrev variables : Listed VariableShape
 variables = record { list = λ t. t.variables; with = λ rows t. record t { variables = rows }; has = λ rows t. refl; last = λ rows before t. refl }

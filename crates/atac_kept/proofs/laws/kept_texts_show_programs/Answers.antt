@@ -1,6 +1,0 @@
--- The lemma itself: a search gets lost in what the call shows.
-use Rattle.atac_kept.proofs.Kept.{kept_texts_show}
-use Rattle.atac_kept.proofs.laws.kept_texts_show_programs.Goals as goal
-
-pub returns : goal.returns
-returns c = kept_texts_show
