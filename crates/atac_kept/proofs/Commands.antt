@@ -1,7 +1,8 @@
 -- What the commands show of a kept text and of traces of runs, by what they show of any text and of any traces.
-use Rattle.std.specs.Prelude.{min, if◌then◌else◌}
+use mathlib.Core.Path.{fun_ext}
+use Rattle.std.specs.Prelude.{min, ◌||◌, if◌then◌else◌}
 use Rattle.std.specs.Io.KnownBytes.{append_known}
-use Rattle.std.proofs.Common.{◌≡◌, ◌≤◌, ◌+◌, ℕ, List, [], ◌∷◌, length, Some, None, Bool, ◌∙◌, refl, sym, ap, subst, inl, inr}
+use Rattle.std.proofs.Common.{◌≡◌, ◌≤◌, ◌+◌, ◌++◌, ℕ, List, [], ◌∷◌, length, map, Some, None, Bool, true, ◌∙◌, refl, sym, ap, subst, inl, inr}
 use Rattle.c_lex_pieces.specs.Written.{AreBytes}
 use Rattle.c_meaning.specs.Calls.{Source}
 use Rattle.sha2.specs.Sha256.{sha256}
@@ -12,14 +13,24 @@ use Rattle.trace_file.specs.Layout.{bytes_of}
 use Rattle.trace_file.specs.declared.trace.Trace.{Trace}
 use Rattle.trace_file.proofs.Digest.{length-sha256}
 use Rattle.atac_base.specs.Outside.{ShelfState, SinkState, Said}
+use Rattle.atac_base.specs.Items.{ItemLists}
+use Rattle.cover_report.specs.Texts.{report_text}
+use Rattle.cover_hits.specs.Hits.{hits_text}
+use Rattle.serde_json.specs.Written.{compact_text}
+use Rattle.atac_traces.specs.Totals.{count_in}
+use Rattle.atac_words.specs.declared.words.View.{View}
+use Rattle.atac_words.specs.declared.words.View.TheVariants as view
+use Rattle.atac_items.specs.Fitting.{ItemsFit}
+use Rattle.atac_items.proofs.Facts.{items_of_programs_fit}
+use Rattle.atac_items.proofs.Texts.{tests_have_one_text, counts_have_one_text}
 use Rattle.atac_words.specs.Words.{Command, Check, ListItems, Instrument, Cover, Run, RunInto, Merge, Tell, Pick, Watch, SelfCover}
-use Rattle.atac_programs.specs.Programs.{IsInstrumented, program_in, shown_by, met_by}
+use Rattle.atac_programs.specs.Programs.{IsInstrumented, program_in, shown, shown_by, met_by}
 use Rattle.atac_commands.specs.Claims.{IsHeld, IsRunnable, HoldsOld, HoldTraces, Shows}
-use Rattle.atac_commands.specs.Readings.{IsRunMore}
+use Rattle.atac_commands.specs.Readings.{IsRunMore, met_in, view_text}
 use Rattle.atac_commands.specs.Runs.{Handed}
 use Rattle.atac_kept.specs.Kept.{IsKeptOf}
-use Rattle.atac_kept.specs.Recorded.{RunOn, AllCountRuns, AreTraceOfRuns, CountsRuns, together}
-use Rattle.atac_kept.specs.Commands.{HoldsRuns, HoldAll, ShowsKept, CommandsSpeakOfPrograms}
+use Rattle.atac_kept.specs.Recorded.{RunOn, some_shows, times_shown, AllCountRuns, AreTraceOfRuns, CountsRuns, TellOfRuns, together}
+use Rattle.atac_kept.specs.Commands.{HoldsRuns, HoldAll, text_of_runs, ReportsAreThoseOfCovers, ShowsKept, CommandsSpeakOfPrograms}
 use Rattle.atac_kept.proofs.Kept.{kept_texts_run}
 use Rattle.atac_kept.proofs.Recorded.{one_more_run_is_counted, traces_tell_of_runs, sums_count_runs}
 
@@ -61,6 +72,22 @@ held_so P digest says (name ∷ names) (runs ∷ all) h =
 held_so P digest says [] (runs ∷ all) h = absurd h
 held_so P digest says (name ∷ names) [] h = absurd h
 
+-- ---- texts
+
+told_text : (v : View) (source : List ℕ) (items : ItemLists) (P : Source) (ts : List Trace) (runs : List RunOn) → ItemsFit items → TellOfRuns P ts runs → view_text v source items ts ≡ text_of_runs v source items P runs
+told_text view.Report source items P ts runs fit tell = (tests_have_one_text source items (met_in ts) (some_shows P runs) fit tell.met).report
+told_text view.Show source items P ts runs fit tell = (tests_have_one_text source items (met_in ts) (some_shows P runs) fit tell.met).show
+told_text view.Hits source items P ts runs fit tell =
+    ap (λ b. hits_text b items (count_in ts)) tell.exact ∙ counts_have_one_text true items (count_in ts) (λ f. min (times_shown P runs f) most) fit tell.counts
+told_text view.Json source items P ts runs fit tell = ap (λ j. compact_text j ++ 10 ∷ []) (tests_have_one_text source items (met_in ts) (some_shows P runs) fit tell.met).json
+
+shown_alike : (P : Source) (limit : ℕ) (inputs : List (List ℕ)) (f : Fact) → some_shows P (map (λ b. (limit, b)) inputs) f ≡ shown P limit inputs f
+shown_alike P limit [] f = refl
+shown_alike P limit (b ∷ inputs) f = ap (λ x. shown_by P limit b f || x) (shown_alike P limit inputs f)
+
+pub reports_are_those_of_covers : ReportsAreThoseOfCovers
+reports_are_those_of_covers P items source limit inputs = ap (report_text items) (fun_ext (shown_alike P limit inputs))
+
 -- ---- the commands
 
 module _ (ws : Handed) (limit : ℕ) (name input trace : List ℕ) (shelf shelf' : ShelfState) (out out' : SinkState) (shows : Shows ws (RunInto limit name input trace) shelf shelf' out out') where
@@ -93,10 +120,13 @@ commands_speak_of_programs ws (Merge name (first ∷ rest)) shelf shelf' out out
     let h = held_so (program_in a) (sha256 source) shelf.says (first ∷ rest) all held in
     let r = shows (sha256 source) h.ts h.hold in
     (bytes_of r.0, sums_count_runs (program_in a) (sha256 source) h.ts all r.0 (length-sha256 source) h.counts r.1 r.2, r.2, r.4)
-commands_speak_of_programs ws (Tell view name traces) shelf shelf' out out' shows = λ p all held.
-    let h = held_so (program_in p.accepted) (sha256 p.held.bytes) shelf.says traces all held in
+commands_speak_of_programs ws (Tell v name traces) shelf shelf' out out' shows = λ p bytes all held.
+    let P = program_in p.accepted in
+    let h = held_so P (sha256 p.held.bytes) shelf.says traces all held in
     let r = shows p h.ts h.hold in
-    (r.0, r.1, (h.ts, traces_tell_of_runs (program_in p.accepted) (sha256 p.held.bytes) h.ts all h.counts, r.2))
+    let fit = items_of_programs_fit p.held.bytes bytes p.accepted r.0 r.1 in
+    let text = told_text v p.held.bytes r.0 P h.ts (together all) fit (traces_tell_of_runs P (sha256 p.held.bytes) h.ts all h.counts) in
+    (r.0, r.1, r.2 ∙ ap (append_known out.bytes) text)
 commands_speak_of_programs ws (Check name) shelf shelf' out out' shows = tt
 commands_speak_of_programs ws (ListItems name) shelf shelf' out out' shows = tt
 commands_speak_of_programs ws (Instrument name text) shelf shelf' out out' shows = tt

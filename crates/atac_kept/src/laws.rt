@@ -1,7 +1,7 @@
 //! The laws, as contracts.
 
 ghost use Rattle.atac_kept.specs.Kept.{KeptTextsRunAsPrograms};
-ghost use Rattle.atac_kept.specs.Commands.{CommandsSpeakOfPrograms};
+ghost use Rattle.atac_kept.specs.Commands.{CommandsSpeakOfPrograms, ReportsAreThoseOfCovers};
 ghost use Rattle.atac_kept.specs.Recorded.{OneMoreRunIsCounted, TracesTellOfRuns, SumsCountRuns};
 
 /// A text that is kept of an accepted program is read as one program with probes alone, whose runs have the sections of the
@@ -24,4 +24,10 @@ pub fn runs_are_counted()
 #[tactic(auto, using(crate::proofs::Commands::commands_speak_of_programs))]
 pub fn commands_speak_of_programs()
     ensures { CommandsSpeakOfPrograms }
+{}
+
+/// And the report of runs within one limit is that of a cover of their inputs.
+#[tactic(auto, using(crate::proofs::Commands::reports_are_those_of_covers))]
+pub fn reports_are_those_of_covers()
+    ensures { ReportsAreThoseOfCovers }
 {}
