@@ -35,7 +35,7 @@ use Rattle.atac_kept.proofs.Kept.{kept_texts_run}
 use Rattle.atac_kept.proofs.Recorded.{one_more_run_is_counted, traces_tell_of_runs, sums_count_runs}
 
 -- the text is one that `run` takes
-runnable : (source text : List ℕ) (bytes : AreBytes source) (k : IsInstrumented source text) (said : Said) → said ≡ Some (Some text) → IsRunnable said
+abbrev runnable : (source text : List ℕ) (bytes : AreBytes source) (k : IsInstrumented source text) (said : Said) → said ≡ Some (Some text) → IsRunnable said
 runnable source text bytes k said held =
     let kept = kept_texts_run source text bytes k in
     record { held = record { bytes = text; is = held; short = subst (λ t. length t ≤ 67108864) (sym k.is) k.fits.text }; program = kept.program; read = kept.read }

@@ -52,7 +52,7 @@ old_sound old (inl none) f met =
   where
     no_less : (n : ℕ) → n ≡ 0 → nat_lt 0 n ≡ true → ⊥
     no_less n e h = grind (arith, nat_tests)
-old_sound old (inr some) = are_sound old.tally some.1.3.1
+old_sound old (inr some) f met = are_sound old.tally some.1.3.1 f met
 
 module _ (source text : List ℕ) (bytes : AreBytes source) (k : IsInstrumented source text) (limit : ℕ) (input : List ℕ) (old new : Trace) (more : IsRunMore old new (shown_by (program_in k.accepted) limit input)) (before : AreSound old.tally) where
   abbrev P : Source
@@ -107,7 +107,7 @@ some_append P (r ∷ a) b f = ap (λ x. shown_by P r.0 r.1 f || x) (some_append 
     associates false y z = refl
 
 times_append : (P : Source) (a b : List RunOn) (f : Fact) → times_shown P (a ++ b) f ≡ times_shown P a f + times_shown P b f
-times_append P [] b f = refl
+times_append P [] b f = omega arith
 times_append P (r ∷ a) b f = let e = times_append P a b f in omega (arith, e)
 
 -- some run shows it exactly where one at least does
@@ -116,8 +116,11 @@ some_times P [] f = refl
 some_times P (r ∷ runs) f = by (shown_by P r.0 r.1 f) (times_shown P runs f) (some_shows P runs f) (some_times P runs f)
   where
     by : (b : Bool) (n : ℕ) (c : Bool) → nat_lt 0 n ≡ c → nat_lt 0 ((if b then 1 else 0) + n) ≡ (b || c)
-    by true n c e = refl
-    by false n c e = e
+    by true n c e = one n
+      where
+        one : (n : ℕ) → nat_lt 0 (1 + n) ≡ true
+        one n = grind (arith, nat_tests)
+    by false n c e = let h : 0 + n ≡ n = omega arith in ap (nat_lt 0) h ∙ e
 
 total_counts : (P : Source) (digest : List ℕ) (ts : List Trace) (all : List (List RunOn)) (f : Fact) → AllCountRuns P digest ts all → fits f ≡ true → min (total (λ t. count_of t.tally f) ts) most ≡ min (times_shown P (together all) f) most
 total_counts P digest [] [] f h fit = refl
@@ -137,7 +140,7 @@ total_old P digest (t ∷ ts) [] h = absurd h
 
 lt_capped : (n m : ℕ) → n ≡ min m most → nat_lt 0 n ≡ nat_lt 0 m
 lt_capped n zero e = ap (nat_lt 0) (let h : n ≡ 0 = omega (arith, e) in h)
-lt_capped n (suc m) e = some n (omega (arith, e))
+lt_capped n (suc m) e = some n (omega (arith, e)) ∙ sym (some (suc m) (omega arith))
   where
     some : (n : ℕ) → 0 < n → nat_lt 0 n ≡ true
     some n h = grind (arith, nat_tests)
