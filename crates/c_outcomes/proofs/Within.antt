@@ -1,12 +1,11 @@
 -- The decisions of a walk have few outcomes: a test has two, and a switch one for each label and one more, which are fewer than its tokens.
-use Rattle.std.proofs.Common.{ℕ, suc, ◌+◌, ◌≤◌, ◌++◌, ◌≡◌, List, [], ◌∷◌, length, refl, sym, ap, ◌∙◌, subst, Option, Some, None, Bool, true, false, arith}
+use Rattle.std.proofs.Common.{ℕ, ◌+◌, ◌≤◌, ◌++◌, List, [], ◌∷◌, length, Option, Bool, true, false, arith}
 use Rattle.std.specs.Prelude.{ℤ, ◌||◌, if◌then◌else◌}
 use Rattle.std.proofs.lemmas.List.{length-append}
 use Rattle.c_base.specs.declared.place.Pos.{Pos}
 use Rattle.c_base.specs.declared.place.IntKind.{IntKind}
-use Rattle.c_base.specs.declared.labels.OutcomeLabel.{OutcomeLabel}
 use Rattle.c_syntax.specs.declared.tree.Named.{Named}
-use Rattle.c_syntax.specs.Shape.{NoteShape, number, char, str, name, unary, before, size_of, plain, and, or, assign, comma, NodeShape, node, ExprShape, leaf, paren, call, prefix, size_of_type, cast, suffix, two, choose, probe, index, field, behind, NodeShapes, no_nodes, more_nodes, MaybeNode, no_node, one_node, DeclShape, decl, DeclShapes, no_decls, more_decls, DeclaratorShape, declarator, DeclaratorShapes, no_declarators, more_declarators, DeclFormShape, arrays, function, ParamsShape, empty, void, params, MaybeInit, no_init, one_init, one, listed, LabelShape, case, default, StmtShape, stmt, FormShape, compound, simply, when, either, while, do_while, for, switch, break, continue, return, CompoundShape, braces, ItemShapes, no_items, more_items, ExternalShape, defined, declared, UnitShape}
+use Rattle.c_syntax.specs.Shape.{NoteShape, number, char, str, name, unary, before, size_of, plain, and, or, assign, comma, NodeShape, node, ExprShape, leaf, paren, call, prefix, size_of_type, cast, suffix, two, choose, probe, index, field, behind, NodeShapes, no_nodes, more_nodes, MaybeNode, no_node, one_node, DeclShape, decl, DeclShapes, no_decls, more_decls, DeclaratorShape, declarator, DeclaratorShapes, no_declarators, more_declarators, DeclFormShape, arrays, function, ParamsShape, empty, void, params, MaybeInit, no_init, one_init, one, listed, LabelShape, case, default, StmtShape, stmt, FormShape, compound, simply, when, either, while, do_while, for, switch, break, continue, return, CompoundShape, braces, ItemShapes, no_items, more_items, ExternalShape, defined, declared}
 use Rattle.c_tables.specs.Tables.{TablesShape}
 use Rattle.c_walk.specs.declared.around.Around.{Around}
 use Rattle.c_walk.specs.declared.around.Taken.{Taken}
@@ -18,20 +17,20 @@ use Rattle.c_walk.specs.Tests.{is_logical_form, outcome_of, number_constant, out
 use Rattle.c_walk.specs.Walked.{Walked, with_item, is_used, is_written, operand_taken, left_taken, right_taken, with_block, with_block_if, pos_of, inside, inside_test, with_decision, with_test, with_def, with_use, with_sites, with_site}
 use Rattle.c_walk.specs.Walking.{walk_node, walk_form, walk_test, walk_arm, walk_nodes, walk_maybe, walk_loop_test, walk_maybe_test, walk_step}
 use Rattle.c_walk.specs.Stating.{whole, with_variable, with_whole_def, walk_maybe_init, walk_declarator, walk_declarators, walk_decl, walk_decls, pos_of_stmt, splits, is_labelled, walk_choice, walk_stmt, walk_body, walk_part, walk_compound, walk_items}
-use Rattle.c_walk.specs.Units.{no_items as nothing_walked, items_of, define_declarator, define_declarators, define_decl, define_decls, define_params, define_parameters, function_of, in_function, walk_function, walk_external, walk_externals}
+use Rattle.c_walk.specs.Units.{no_items as nothing_walked, define_declarator, define_declarators, define_decl, define_decls, define_params, define_parameters, function_of, in_function, walk_function, walk_external, walk_externals}
 use Rattle.c_constants.specs.declared.constants.Constant.{Constant}
-use Rattle.c_constants.specs.declared.constants.Constant.TheVariants.{No, Known}
+use Rattle.c_constants.specs.declared.constants.Constant.TheVariants.{No, Known, Faulty, Variable, Part, Address, Literal}
 use Rattle.c_constants.specs.Numbers.{number_of}
 use Rattle.c_constants.specs.Constants.{is_zero, character}
-use Rattle.c_syntax.specs.Grammar.{labels_form, stmt_form, body_form, compound_form, items_form, external_form, externals_form, unit_form, tokens_of, maybe_line_form}
+use Rattle.c_syntax.specs.Grammar.{labels_form, stmt_form, body_form, compound_form, items_form, external_form, externals_form, unit_form}
 use Rattle.c_outcomes.specs.Outcomes.{AreWithin, IsWithin, AllWithin, OutcomesAreFew}
 use Rattle.c_outcomes.proofs.Sizes.{size, size_counts}
 
 -- ---- outcomes
 
 one_more : (limit : ℕ) (is : List Item) (i : Item) → AllWithin limit is → IsWithin limit i → AllWithin limit (is ++ i ∷ [])
-one_more limit [] i h one = (one, tt)
-one_more limit (x ∷ is) i h one = (h.0, one_more limit is i h.1 one)
+one_more limit [] i h here = (here, tt)
+one_more limit (x ∷ is) i h here = (h.0, one_more limit is i h.1 here)
 
 pub cases_within : (limit i : ℕ) (vs : List ℤ) → i + length vs ≤ limit → AreWithin limit (case_labels i vs)
 cases_within limit i [] h = (omega (arith, h), tt)
@@ -44,6 +43,11 @@ zero_within limit false h = (omega (arith, h), tt)
 constant_within : (limit : ℕ) (k : Constant) → 2 ≤ limit → AreWithin limit (labels (outcome_of k))
 constant_within limit (Known k v) h = zero_within limit (is_zero v) h
 constant_within limit No h = (omega (arith, h), (h, tt))
+constant_within limit (Faulty f) h = (omega (arith, h), (h, tt))
+constant_within limit Variable h = (omega (arith, h), (h, tt))
+constant_within limit Part h = (omega (arith, h), (h, tt))
+constant_within limit Address h = (omega (arith, h), (h, tt))
+constant_within limit Literal h = (omega (arith, h), (h, tt))
 
 both_within : (limit : ℕ) → 2 ≤ limit → AreWithin limit (labels both)
 both_within limit h = (omega (arith, h), (h, tt))
@@ -84,10 +88,10 @@ if_on limit enough w true u v p q = p
 if_on limit enough w false u v p q = q
 
 item_within : (limit : ℕ) (i : Item) (w : Walked) → IsWithin limit i → Keeps limit w (with_item i w)
-item_within limit i w one = record { keeps = λ h. one_more limit w.items i h one }
+item_within limit i w here = record { keeps = λ h. one_more limit w.items i h here }
 
 decision_within : (limit : ℕ) (p : Pos) (o : Outcomes) (w : Walked) → AreWithin limit (labels o) → Keeps limit w (with_decision p o w)
-decision_within limit p o w one = record { keeps = λ h. one_more limit w.items (decision p o) h one }
+decision_within limit p o w here = record { keeps = λ h. one_more limit w.items (decision p o) h here }
 
 pub variable_on : (limit : ℕ) (enough : 2 ≤ limit) (w : Walked) → Keeps limit w (with_variable w)
 variable_on limit enough w = record { keeps = λ h. h }
@@ -222,10 +226,10 @@ label_cases k (default p ∷ ls) = let h = label_cases k ls in omega (arith, h)
 pub cases_in : (k : Option IntKind) (items : ItemShapes) → length (case_values k items) ≤ size (items_form items)
 cases_in k no_items = omega arith
 cases_in k (more_items ls a rest) =
-    let one = label_cases k ls in
+    let here = label_cases k ls in
     let more = cases_in k rest in
     let e = length-append (label_values k ls) (case_values k rest) in
-    omega (arith, one, more, e)
+    omega (arith, here, more, e)
 
 pub choice_on : (limit : ℕ) (enough : 2 ≤ limit) (c : Around) (e : NodeShape) (items : ItemShapes) (w : Walked) → 1 + size (items_form items) ≤ limit → Keeps limit w (walk_choice c e items w)
 choice_on limit enough c e items w fits =
