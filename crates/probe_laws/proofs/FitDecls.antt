@@ -1,13 +1,13 @@
 -- Plain declarations in which nothing is complained of are fit, and names are known behind them as before them.
 use Rattle.std.proofs.Common.{◌≡◌, ℕ, inl, List, [], ◌∷◌, length, Bool, true, false, Option, Some, None, refl, arith}
-use Rattle.std.specs.Prelude.{◌||◌, nat_eq, nat_le, option_map, if◌then◌else◌}
+use Rattle.std.specs.Prelude.{◌||◌, nat_eq, nat_le, if◌then◌else◌}
 use Rattle.c_base.specs.declared.place.Pos.{Pos}
 use Rattle.c_base.specs.declared.place.IntKind.TheVariants.{Char}
 use Rattle.c_syntax.specs.declared.text.Text.{Text}
 use Rattle.c_syntax.specs.declared.tree.Named.{Named}
 use Rattle.c_syntax.specs.declared.tree.Star.{Star}
 use Rattle.c_syntax.specs.declared.tree.ProbeMark.{ProbeMark}
-use Rattle.c_syntax.specs.Shape.{TypeOf, int, pointer, def, str, NodeShape, node, ExprShape, leaf, LengthShapes, SpecShapes, DeclShape, decl, DeclShapes, no_decls, more_decls, DeclaratorShape, declarator, DeclaratorShapes, no_declarators, more_declarators, arrays, function, ParamsShape, empty, void, params, MaybeInit, no_init, one_init, InitShape, one, listed, InitShapes, no_inits, more_inits}
+use Rattle.c_syntax.specs.Shape.{TypeOf, int, def, str, NodeShape, node, ExprShape, leaf, LengthShapes, SpecShapes, DeclShape, decl, DeclShapes, no_decls, more_decls, DeclaratorShape, declarator, DeclaratorShapes, no_declarators, more_declarators, arrays, function, ParamsShape, empty, void, params, MaybeInit, no_init, one_init, InitShape, one, listed, InitShapes, no_inits, more_inits}
 use Rattle.c_syntax.specs.Shaped.{Shaped, SomeSpecs, ShapedLengths, in_names, name_fits, ShapedInit, ShapedInits, ShapedInitOf, ShapedDecl, ShapedDecls, ShapedDeclarator, ShapedDeclarators, ShapedParams, ShapedParamList}
 use Rattle.c_type_rules.specs.Layouts.{Measure, known, incomplete, too_large, measure}
 use Rattle.c_type_rules.specs.Verdicts.{parameter_type, result_type}

@@ -1,5 +1,5 @@
 -- With its probes a program's uses belong to the decisions that they belong to without.
-use Rattle.std.proofs.Common.{◌≡◌, ℕ, zero, suc, ◌+◌, ◌<◌, ◌≤◌, Bool, true, false, List, [], ◌∷◌, Option, None, Some, refl, sym, ap, ◌∙◌, arith, if◌then◌else◌, slice_get}
+use Rattle.std.proofs.Common.{◌≡◌, ℕ, zero, suc, ◌+◌, ◌<◌, ◌≤◌, true, false, List, [], ◌∷◌, Option, None, Some, refl, ap, ◌∙◌, arith, if◌then◌else◌, slice_get}
 use Rattle.std.specs.Prelude.{nat_eq, unwrap_or}
 use Rattle.std.proofs.lemmas.Bool.Decides.{nat_tests}
 use Rattle.c_walk.specs.Items.{Item, block, decision, def, used}
@@ -8,7 +8,7 @@ use Rattle.probe_rules.specs.Owning.{owned_from}
 use Rattle.probe_rules.specs.Simulation.{all_walked}
 use Rattle.probe_rules.proofs.OwnUnits.{owns}
 use Rattle.c_walk.specs.Counted.{use_count}
-use Rattle.probe_laws.specs.Owners.{use_owners, owner_in_program}
+use Rattle.probe_laws.specs.Owners.{use_owners}
 use Rattle.probe_laws.specs.Owning.{ProgramOwns, ProgramOwnsFew}
 use Rattle.probe_laws.proofs.FewItems.{few_items, is_plain}
 

@@ -3,8 +3,10 @@ use Rattle.std.proofs.Common.{◌≡◌, [], ◌∷◌, Option, Some, None, refl
 use Rattle.c_base.specs.declared.place.Pos.{Pos}
 use Rattle.c_syntax.specs.declared.text.Text.{Text}
 use Rattle.c_syntax.specs.declared.token.Key.TheVariants as key
+use Rattle.c_syntax.specs.declared.token.TokenKind.TheVariants as kind
 use Rattle.c_syntax.specs.declared.tree.Named.{Named}
 use Rattle.c_syntax.specs.Shape.{bare, number, name, assign, def, simple, and, NodeShape, node, ExprShape, leaf, two, probe, one_node, no_lengths, SpecShapes, no_specs, more_specs, word, decl, no_decls, declarator, no_declarators, more_declarators, arrays, function, void, no_init, StmtShape, stmt, FormShape, simply, return, braces, no_items, more_items, defined, declared, UnitShape}
+use Rattle.c_lex_pieces.specs.Written.{IsToken}
 use Rattle.c_tree.specs.Units.{typed_unit, complaints}
 use Rattle.c_tree.specs.Programs.{IsSound}
 use Rattle.c_tree.proofs.Programs.{program_typed}
@@ -52,6 +54,15 @@ unit place = record {
   last = p;
 }
 
+a_word : IsToken (kind.Word a_text)
+a_word = ((refl, tt), refl, refl)
+
+main_word : IsToken (kind.Word main_text)
+main_word = ((refl, (refl, (refl, (refl, tt)))), refl, refl)
+
+seven_number : IsToken (kind.Number (55 ∷ []))
+seven_number = (refl, tt, refl)
+
 is_sound : IsSound (unit a)
 is_sound = record {
   shaped = record {
@@ -65,7 +76,12 @@ is_sound = record {
     );
     low = omega arith;
   };
-  few = omega arith;
+  lexed = record {
+    -- int a ; int main ( void ) { a = 7 ; return a && a ; }
+    tokens = (tt, (a_word, (tt, (tt, (main_word, (tt, (tt, (tt, (tt, (a_word, (tt, (seven_number, (tt, (tt, (a_word, (tt, (a_word, (tt, (tt, tt)))))))))))))))))));
+    kept = refl;
+    apart = refl;
+  };
 }
 
 abbrev program : Source
