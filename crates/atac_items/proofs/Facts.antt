@@ -184,8 +184,8 @@ module _ (source : List ℕ) (bytes : AreBytes source) (a : IsAccepted source) (
   have = shaped_has_few s.lists.decisions.items (subst ShapesHaveFew (sym (ap (λ l. l.decisions) has.numbered.lists)) (walk_has_few is (outcomes_are_few a.tables a.unit 350000 (omega arith) (few_tokens source bytes a))))
 
   each_fits : ItemsFit items
-  each_fits kind.Block = subst (λ l. AllFit (blocks_behind 0 l)) (sym has.are.blocks) (blocks_fit 0 s.lists.blocks.items few.blocks)
-  each_fits kind.Outcome = subst (λ l. AllFit (map outcome_of l)) (sym has.are.outcomes) (outcomes_fit 0 s.lists.decisions.items few.decisions have)
+  each_fits kind.Block = subst (λ l. AllFit (blocks_behind 0 l)) (sym has.are.blocks) (blocks_fit 0 s.lists.blocks.items (let h = few.blocks in omega (arith, h)))
+  each_fits kind.Outcome = subst (λ l. AllFit (map outcome_of l)) (sym has.are.outcomes) (outcomes_fit 0 s.lists.decisions.items (let h = few.decisions in omega (arith, h)) have)
   each_fits kind.CUse = subst (λ l. AllFit (map (texts.c_use_of items.names) l)) (sym has.are.c_uses) (c_uses_fit s items.names few have has.are.pairs)
   each_fits kind.PUse = subst (λ l. AllFit (map (texts.p_use_of items.names) l)) (sym has.are.p_uses) (p_uses_fit s items.names few have has.are.pairs)
 

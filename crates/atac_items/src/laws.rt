@@ -4,7 +4,6 @@ ghost use Rattle.atac_items.specs.Fitting.{TestsHaveOneText, CountsHaveOneText};
 ghost use Rattle.atac_items.specs.Programs.{ItemsOfProgramsFit};
 
 /// The numbers of the facts of an accepted program's items have 16 bits, and those of outcomes 32.
-#[tactic(auto, using(crate::proofs::Facts::items_of_programs_fit))]
 pub fn items_of_programs_fit()
     ensures { ItemsOfProgramsFit }
 {}

@@ -13,7 +13,6 @@ pub fn kept_texts_run_as_programs()
 
 /// One more run of such a program makes a trace that counts it; traces that count runs tell what these runs show; and their
 /// sum is a trace of all of these runs.
-#[tactic(auto, using(crate::proofs::Recorded::one_more_run_is_counted, crate::proofs::Recorded::traces_tell_of_runs, crate::proofs::Recorded::sums_count_runs))]
 pub fn runs_are_counted()
     ensures one { OneMoreRunIsCounted }
     ensures all { TracesTellOfRuns }
@@ -21,13 +20,11 @@ pub fn runs_are_counted()
 {}
 
 /// So what the commands show of a kept text and of traces is what the program's own runs show.
-#[tactic(auto, using(crate::proofs::Commands::commands_speak_of_programs))]
 pub fn commands_speak_of_programs()
     ensures { CommandsSpeakOfPrograms }
 {}
 
 /// And the report of runs within one limit is that of a cover of their inputs.
-#[tactic(auto, using(crate::proofs::Commands::reports_are_those_of_covers))]
 pub fn reports_are_those_of_covers()
     ensures { ReportsAreThoseOfCovers }
 {}
