@@ -10,12 +10,12 @@ returns-in-Refuses c = not_read (unread _ c.in-Refuses.said _ _ c.in-Refuses.is 
 
 pub returns-in_default : goal.returns-in_default
 returns-in_default c =
-    not_probed (source_of c.in-Runs.program) (runnable _ c.in-Runs.program _ _ c.in-Runs.is refl c.in_ok-said.ensures) (sym c.in_default.ensures) c.in_ok-said-2.ensures
+    not_probed (source_of c.in-Runs.program) (runnable _ c.in-Runs.program _ _ c.in-Runs.is refl c.in_ok-said.ensures) (sym c.in_default.ensures.digest) c.in_ok-said-2.ensures
 
 pub returns : goal.returns
 returns c =
     record {
       read = runnable _ c.in-Runs.program _ _ c.in-Runs.is refl c.in_ok-said.ensures;
-      line = sym c.in-Some.ensures;
+      line = sym c.in-Some.ensures.digest;
       owners = probed_owners (source_of c.in-Runs.program) c.in_ok-owners.owners c.in_ok-owners.ensures.whole c.in_ok-owners.ensures.owners;
     }
