@@ -1,12 +1,15 @@
 //! Tests across the crates, over shelves and sinks in memory.
 #![tactic(auto)]
 
+pub mod again;
 #[cfg(test)]
 mod arithmetic;
 #[cfg(test)]
 mod calls;
 #[cfg(test)]
 mod collector;
+#[cfg(test)]
+mod erased;
 #[cfg(test)]
 mod events;
 #[cfg(test)]
