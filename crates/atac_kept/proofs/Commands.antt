@@ -30,7 +30,7 @@ use Rattle.atac_commands.specs.Readings.{IsRunMore, met_in, view_text}
 use Rattle.atac_commands.specs.Runs.{Handed}
 use Rattle.atac_kept.specs.Kept.{IsKeptOf}
 use Rattle.atac_kept.specs.Recorded.{RunOn, some_shows, times_shown, AllCountRuns, AreTraceOfRuns, CountsRuns, TellOfRuns, together}
-use Rattle.atac_kept.specs.Commands.{HoldsRuns, HoldAll, text_of_runs, ReportsAreThoseOfCovers, ShowsKept, CommandsSpeakOfPrograms}
+use Rattle.atac_kept.specs.Commands.{HoldsRuns, HoldAll, text_of_runs, ReportsAreThoseOfCovers, ShowsKept}
 use Rattle.atac_kept.proofs.Kept.{kept_texts_run}
 use Rattle.atac_kept.proofs.Recorded.{one_more_run_is_counted, traces_tell_of_runs, sums_count_runs}
 
@@ -110,7 +110,8 @@ module _ (ws : Handed) (limit : ℕ) (name input trace : List ℕ) (shelf shelf'
       let counts = one_more_run_is_counted source text bytes k runs old r.0 limit i.bytes t.counts (inr (some.0, t.is)) more r.2 in
       (r.3 ∙ ap (append_known out.bytes) (kept.same input i.bytes limit), (bytes_of r.0, counts, r.2, r.4))
 
-pub commands_speak_of_programs : CommandsSpeakOfPrograms
+-- what a call shows of any text and of any traces says so
+pub commands_speak_of_programs : (ws : Handed) (command : Command) (shelf shelf' : ShelfState) (out out' : SinkState) → Shows ws command shelf shelf' out out' → ShowsKept command shelf shelf' out out'
 commands_speak_of_programs ws (Run limit name input) shelf shelf' out out' shows = λ source text bytes k held i.
     let kept = kept_texts_run source text bytes k in
     shows (runnable source text bytes k (shelf.says name) held) i ∙ ap (append_known out.bytes) (kept.same input i.bytes limit)

@@ -9,6 +9,8 @@ use Rattle.c_syntax.specs.declared.tree.ProgramLine.{ProgramLine}
 use Rattle.c_syntax.specs.Shape.{UnitShape}
 use Rattle.c_placing.specs.Unplaced.{unplaced_line, EqualButForPlaces}
 use Rattle.c_sites_probes.specs.Owned.{owner_of, owned_in}
+use Rattle.c_syntax.specs.Forms.{kinds_of}
+use Rattle.c_tree.specs.Lexed.{AreLexed}
 use Rattle.c_tree.specs.Programs.{IsProgram, digest_in}
 use Rattle.c_tree.proofs.Programs.{program_typed, is_sound}
 use Rattle.c_tree.specs.Units.{typed_unit}
@@ -46,7 +48,7 @@ program_so source bytes a =
     let u = a.read.unit in
     let given = a.read.written in
     let sound = given_is_sound Plain source given.tokens bytes given.given in
-    let lexed = record { tokens = sound.tokens; kept = sound.kept; apart = sound.apart } in
+    let lexed : AreLexed (kinds_of given.tokens) = record { tokens = sound.tokens; kept = sound.kept; apart = sound.apart } in
     let is = program_typed u (is_sound u given.tokens given.shaped given.placed lexed) a.read.typed.clean in
     subst (λ v. IsProgram v a.tables) (sym a.read.typed.unit) (subst (λ t. IsProgram (typed_unit u).unit t) (sym a.read.typed.tables) is)
 

@@ -18,8 +18,7 @@ use Rattle.atac_words.specs.Words.{Command, Check, ListItems, Instrument, Cover,
 use Rattle.atac_traces.specs.Files.{trace_most}
 use Rattle.atac_programs.specs.Programs.{IsAccepted, IsInstrumented, HasItems, program_in, section, report}
 use Rattle.atac_commands.specs.Answers.{input_most}
-use Rattle.atac_commands.specs.Claims.{IsHeld, Passes, KeptUnder, Shows}
-use Rattle.atac_commands.specs.Runs.{Handed}
+use Rattle.atac_commands.specs.Claims.{IsHeld, Passes, KeptUnder}
 use Rattle.atac_kept.specs.Recorded.{RunOn, some_shows, times_shown, AreTraceOfRuns, together}
 
 -- a trace of these runs is held under the name
@@ -78,7 +77,3 @@ ShowsKept (Cover limit program inputs) shelf shelf' out out' = Unit {0}
 ShowsKept (Pick limit program inputs) shelf shelf' out out' = Unit {0}
 ShowsKept (Watch limit program input name) shelf shelf' out out' = Unit {0}
 ShowsKept (SelfCover limit seed) shelf shelf' out out' = Unit {0}
-
--- so it is of each call that shows what a command says
-abbrev pub CommandsSpeakOfPrograms : Type 0
-CommandsSpeakOfPrograms = (ws : Handed) (command : Command) (shelf shelf' : ShelfState) (out out' : SinkState) → Shows ws command shelf shelf' out out' → ShowsKept command shelf shelf' out out'

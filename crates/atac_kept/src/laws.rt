@@ -1,7 +1,7 @@
 //! The laws, as contracts.
 
 ghost use Rattle.atac_kept.specs.Kept.{KeptTextsRunAsPrograms};
-ghost use Rattle.atac_kept.specs.Commands.{CommandsSpeakOfPrograms, ReportsAreThoseOfCovers};
+ghost use Rattle.atac_kept.specs.Commands.{ReportsAreThoseOfCovers};
 ghost use Rattle.atac_kept.specs.Recorded.{OneMoreRunIsCounted, TracesTellOfRuns, SumsCountRuns};
 
 /// A text that is kept of an accepted program is read as one program with probes alone, whose runs have the sections of the
@@ -19,12 +19,7 @@ pub fn runs_are_counted()
     ensures sum { SumsCountRuns }
 {}
 
-/// So what the commands show of a kept text and of traces is what the program's own runs show.
-pub fn commands_speak_of_programs()
-    ensures { CommandsSpeakOfPrograms }
-{}
-
-/// And the report of runs within one limit is that of a cover of their inputs.
+/// The report of runs within one limit is that of a cover of their inputs.
 pub fn reports_are_those_of_covers()
     ensures { ReportsAreThoseOfCovers }
 {}
