@@ -1,0 +1,11 @@
+pub mod Beginnings
+pub mod Filling
+pub mod Cores
+pub mod KeepsNodes
+pub mod KeepsParts
+pub mod KeepsUnits
+pub mod Openings
+pub mod Arrays
+pub mod RowLists
+pub mod Follows
+pub mod Quiet
