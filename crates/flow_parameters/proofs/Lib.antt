@@ -1,0 +1,4 @@
+pub mod Scopes
+pub mod NewNames
+pub mod Parameters
+pub mod Begun
