@@ -5,23 +5,24 @@ use Rattle.c_syntax.specs.declared.text.Text.{Text}
 use Rattle.c_syntax.specs.declared.tree.Named.{Named}
 use Rattle.c_syntax.specs.declared.tree.Star.{Star}
 use Rattle.c_syntax.specs.declared.tree.ProbeMark.{ProbeMark}
-use Rattle.c_syntax.specs.Shape.{TypeOf, block, def, NodeShape, MaybeNode, no_node, one_node, LengthShapes, SpecShapes, decl, DeclShapes, no_decls, more_decls, declarator, no_declarators, more_declarators, arrays, function, ParamsShape, empty, void, params, MaybeInit, no_init, one_init, InitShape, one, listed, InitShapes, no_inits, more_inits, LabelShape, case, default}
+use Rattle.c_syntax.specs.Shape.{TypeOf, block, NodeShape, MaybeNode, no_node, one_node, ParamsShape, MaybeInit, no_init, one_init, InitShape, one, listed, InitShapes, no_inits, more_inits, LabelShape, case, default}
 use Rattle.c_constants.specs.Constants as constants
 use Rattle.c_scopes.specs.Scoping.{find_here}
 use Rattle.c_type_rules.specs.Verdicts.{result_type}
 use Rattle.c_tree.specs.declared.meaning.Entity.{Entity}
-use Rattle.c_tree.specs.State.{State, step, steps, complain, mention, function_number}
+use Rattle.c_tree.specs.State.{State, step, steps, mention, function_number}
 use Rattle.c_tables.specs.Rows.{first_place, text_of, name_pos}
 use Rattle.c_tree.specs.Rulings.{by, rule, kind_at, of_kind}
 use Rattle.c_tree.specs.Sorts.{pos_in}
 use Rattle.c_tree.specs.Operators.{claim, constant_rule, hushed, heard}
-use Rattle.c_tree.specs.Parts.{unspelled, spelled_rule, star_tokens, pointed}
-use Rattle.c_tree.specs.Typing.{type_node, type_specs, type_lengths}
+use Rattle.c_tree.specs.Parts.{star_tokens, pointed}
+use Rattle.c_tree.specs.Typing.{type_node}
 use Rattle.c_tree.specs.Initialisers.{form_in, chars_of, filled, constant_init, fits, one_init_of, list_rule, slots, Slots, slot, slot_rule, further, init_pos, type_init, type_inits}
-use Rattle.c_tree.specs.Declaring.{name_tokens, claim_mark, claim_name, token_of_name, type_maybe_init, parameter_at, with_parameter, declare_parameter, parameter_rule, name_demand, type_param, type_param_list, type_params, opened_scope, closed_params, all_kinds, signature_of, Signature, function_at, unclear_at, bodied, function_entity, declare_function, type_function}
+use Rattle.c_tree.specs.Declaring.{name_tokens, claim_name, token_of_name, type_maybe_init, type_params, opened_scope, closed_params, all_kinds, signature_of, Signature, function_at, unclear_at, bodied, function_entity, declare_function, type_function}
 use Rattle.c_tree.specs.Stating.{Labels, tested, result_rule, type_maybe, type_test, type_result, type_marks, case_state, default_state, case_labels, default_labels, type_labels}
-use Rattle.flow_initial.proofs.Cores.{Core, core, Kept, ◌▸◌}
+use Rattle.flow_initial.proofs.Cores.{Core, core, Kept, inside, ◌▸◌}
 use Rattle.flow_initial.proofs.KeepsNodes as nodes
+use Rattle.flow_initial.proofs.KeepsParameters as lists
 
 module _ (J : Core → Type 0) (kept : Kept J) where
   abbrev pub Keeps : State → State → Type 0
@@ -58,58 +59,11 @@ module _ (J : Core → Type 0) (kept : Kept J) where
 
   -- ---- declared names
 
-  pub mark_keeps : (fit : Bool) (m : Option ProbeMark) (s : State) → Keeps s (claim_mark fit m s)
-  mark_keeps fit None s = as_it_was s
-  mark_keeps fit (Some m) s = nodes.claim_keeps J kept def m.number s.at m.pos s ▸ nodes.demand_keeps J kept fit 37 s.at m.pos (claim def m.number s.at m.pos s)
-
   pub name_keeps : (fit : Bool) (x : Option Named) (s : State) → Keeps s (claim_name fit x s)
-  name_keeps fit None s = as_it_was s
-  name_keeps fit (Some x) s = mark_keeps fit x.probe s
-
-  pub with_parameter_keeps : (x : Text) (k : Option TypeOf) (s : State) → Keeps s (with_parameter x k s)
-  with_parameter_keeps x None s = as_it_was s
-  with_parameter_keeps x (Some t) s = as_it_was s
-
-  pub parameter_at_keeps : (token : ℕ) (p : Pos) (x : Text) (k : Option TypeOf) (e : Option Entity) (s : State) → Keeps s (parameter_at token p x k e s)
-  parameter_at_keeps token p x k None s = with_parameter_keeps x k s
-  parameter_at_keeps token p x k (Some e) s = nodes.complain_keeps J kept 31 token p s
-
-  pub parameter_keeps : (token : ℕ) (x : Option Named) (k : Option TypeOf) (s : State) → Keeps s (declare_parameter token x k s)
-  parameter_keeps token None k s = as_it_was s
-  parameter_keeps token (Some x) k s = parameter_at_keeps token x.pos x.text k (find_here x.text s.names) s
-
-  pub name_demand_keeps : (defining : Bool) (x : Option Named) (token : ℕ) (p : Pos) (s : State) → Keeps s (name_demand defining x token p s)
-  name_demand_keeps true None token p s = nodes.complain_keeps J kept 37 token p s
-  name_demand_keeps true (Some x) token p s = as_it_was s
-  name_demand_keeps false x token p s = as_it_was s
-
-  pub param_keeps : (defining : Bool) (p : Pos) (specs : SpecShapes) (stars : List Star) (x : Option Named) (ls : LengthShapes) (i : MaybeInit) (s : State) → Keeps s (type_param defining p specs stars x ls i s).state
-  param_keeps defining p specs stars x ls i s =
-      let t = type_specs false specs unspelled s in
-      let r = spelled_rule t.spelled in
-      let b = steps (star_tokens stars) (rule r s.at p t.state) in
-      let v = steps (name_tokens x) (claim_name defining x b) in
-      let l = type_lengths [] ls v in
-      let token = token_of_name s.at x b in
-      let k = parameter_rule l.state.rooms l.counts (pointed stars (kind_at r)) in
-      let u = name_demand defining x s.at p l.state in
-      nodes.specs_keep J kept false specs unspelled s ▸ nodes.rule_keeps J kept r s.at p t.state ▸ name_keeps defining x b ▸ nodes.lengths_keep J kept [] ls v ▸ name_demand_keeps defining x s.at p l.state ▸ nodes.rule_keeps J kept k token (name_pos p x) u
-      ▸ parameter_keeps token x (kind_at k) (rule k token (name_pos p x) u)
-
-  pub list_keeps : (defining : Bool) (ds : DeclShapes) (s : State) → Keeps s (type_param_list defining ds s).state
-  list_keeps defining no_decls s = as_it_was s
-  list_keeps defining (more_decls (decl p specs no_declarators) rest) s = let v = complain 33 s.at first_place s in nodes.complain_keeps J kept 33 s.at first_place s ▸ list_keeps defining rest (step v)
-  list_keeps defining (more_decls (decl p specs (more_declarators (declarator stars x (arrays ls) i) no_declarators)) rest) s =
-      let a = type_param defining p specs stars x ls i s in
-      param_keeps defining p specs stars x ls i s ▸ list_keeps defining rest (step a.state)
-  list_keeps defining (more_decls (decl p specs (more_declarators (declarator stars x (function ps) i) no_declarators)) rest) s = let v = complain 33 s.at first_place s in nodes.complain_keeps J kept 33 s.at first_place s ▸ list_keeps defining rest (step v)
-  list_keeps defining (more_decls (decl p specs (more_declarators (declarator stars x (arrays ls) i) (more_declarators d more))) rest) s = let v = complain 33 s.at first_place s in nodes.complain_keeps J kept 33 s.at first_place s ▸ list_keeps defining rest (step v)
-  list_keeps defining (more_decls (decl p specs (more_declarators (declarator stars x (function ps) i) (more_declarators d more))) rest) s = let v = complain 33 s.at first_place s in nodes.complain_keeps J kept 33 s.at first_place s ▸ list_keeps defining rest (step v)
+  name_keeps = lists.name_keeps (λ c names. J c) (inside J kept)
 
   pub params_keep : (defining : Bool) (ps : ParamsShape) (s : State) → Keeps s (type_params defining ps s).state
-  params_keep defining empty s = as_it_was s
-  params_keep defining void s = as_it_was s
-  params_keep defining (params ds) s = list_keeps defining ds (step (record s { params = [] }))
+  params_keep = lists.params_keep (λ c names. J c) (inside J kept)
 
   pub function_at_keeps : (defining : Bool) (token : ℕ) (p : Pos) (x : Text) (e : Entity) (o : Option Entity) (s : State) → Keeps s (function_at defining token p x e o s)
   function_at_keeps defining token p x e None s = as_it_was s

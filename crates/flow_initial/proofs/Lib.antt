@@ -1,7 +1,9 @@
 pub mod Beginnings
 pub mod Filling
 pub mod Cores
+pub mod KeepsInside
 pub mod KeepsNodes
+pub mod KeepsParameters
 pub mod KeepsParts
 pub mod KeepsUnits
 pub mod Openings
