@@ -8,11 +8,11 @@ use Rattle.c_tables.specs.Rows.{row}
 use Rattle.c_tree.specs.declared.meaning.Tag.{Tag}
 use Rattle.c_tree.specs.State.{State}
 use Rattle.c_tree.specs.Parts.{begun_at, closed, listed_enumeration, opened}
-use Rattle.flow_initial.proofs.Cores.{Core, core, lines_of, Kept, KeptByAll}
+use Rattle.flow_initial.proofs.Cores.{Core, core, lines_of, Kept, KeptByAll, KeptByUnits}
 use Rattle.flow_initial.proofs.Openings.{opened_keeps}
-use Rattle.flow_initial.proofs.Arrays.{HasFilled, types_filled, all_filled}
-use Rattle.flow_initial.proofs.Follows.{Follows, types_follow, all_follow, heard_follows}
-use Rattle.flow_initial.proofs.Quiet.{IsQuiet, types_quiet, all_quiet}
+use Rattle.flow_initial.proofs.Arrays.{HasFilled, types_filled, all_filled, units_filled}
+use Rattle.flow_initial.proofs.Follows.{Follows, types_follow, all_follow, units_follow, heard_follows}
+use Rattle.flow_initial.proofs.Quiet.{IsQuiet, types_quiet, all_quiet, units_quiet}
 use Rattle.flow_initial.proofs.RowLists.{row_at}
 use Rattle.flow_bodies.specs.Bodies.{Good, Reaches}
 
@@ -37,12 +37,19 @@ types_both a =
 pub all_both : (a : Core) → KeptByAll (Both a)
 all_both a = record { types = types_both a; declaring = λ x k s g h. ((all_follow a).declaring x k s g h.0, all_filled.declaring x k s g h.1) }
 
+pub units_both : (a : Core) → KeptByUnits (Both a)
+units_both a = record { all = all_both a; turning = λ n s h. ((units_follow a).turning n s h.0, units_filled.turning n s h.1) }
+
 pub itself : (c : Core) → Good c → Both c c
 itself c h = (record { sound = h.0; begun = λ n e. e; fields = λ n e. refl; more = []; added = sym (append-nil c.variables) }, h.1)
 
 -- what is kept by all is kept between the two
 pub passed : (s u : State) → ((J : Core → Type 0) → KeptByAll J → J (core s) → J (core u)) → Good (core s) → Both (core s) (core u) × Good (core u)
 passed s u f g = let one = f (Both (core s)) (all_both (core s)) (itself (core s) g) in (one, (one.0.sound, one.1, f (IsQuiet false) (all_quiet false) g.2))
+
+-- and what is kept by units
+pub passed_units : (s u : State) → ((J : Core → Type 0) → KeptByUnits J → J (core s) → J (core u)) → Good (core s) → Both (core s) (core u) × Good (core u)
+passed_units s u f g = let one = f (Both (core s)) (units_both (core s)) (itself (core s) g) in (one, (one.0.sound, one.1, f (IsQuiet false) (units_quiet false) g.2))
 
 -- ---- the tables at the end
 

@@ -43,7 +43,7 @@ use Rattle.flow_initial.proofs.KeepsParts as parts
 use Rattle.flow_initial.proofs.KeepsUnits as units
 use Rattle.flow_bodies.specs.Bodies.{Good, Reaches, InitsGive}
 use Rattle.flow_bodies.specs.Programs.{form_of, ParametersHaveRows, AcceptedIsInitialised}
-use Rattle.flow_bodies.proofs.Reaching.{passed, before, by_types}
+use Rattle.flow_bodies.proofs.Reaching.{passed, passed_units, before, by_types}
 use Rattle.flow_bodies.proofs.DeclsIn.{Step, decl_in}
 use Rattle.flow_bodies.proofs.StatementsIn.{compound_in}
 use Rattle.flow_bodies.proofs.Typed.{constants_suffice}
@@ -56,7 +56,7 @@ form_count t n (function ps) w = params_count t n ps w
 form_count t n (arrays ls) w = omega arith
 
 module _ (t : TablesShape) (b : List Bound) (given : InitsGive t b) (rows : ParametersHaveRows) where
-  defined_in : (specs : SpecShapes) (stars : List Star) (x : Option Named) (ps : ParamsShape) (i : MaybeInit) (ms : List ProbeMark) (p : Pos) (ds : DeclShapes) (items : ItemShapes) (s : State) (w : Walked)
+  pub defined_in : (specs : SpecShapes) (stars : List Star) (x : Option Named) (ps : ParamsShape) (i : MaybeInit) (ms : List ProbeMark) (p : Pos) (ds : DeclShapes) (items : ItemShapes) (s : State) (w : Walked)
       → ShapedExternal (defined specs (declarator stars x (function ps) i) ms (braces p ds items)) → Knows false s → Good (core s)
       → Reaches t (core (type_external (defined specs (declarator stars x (function ps) i) ms (braces p ds items)) s).state) → IsClean (type_external (defined specs (declarator stars x (function ps) i) ms (braces p ds items)) s).state
       → w.variables ≡ length s.tables.variables
@@ -86,7 +86,7 @@ module _ (t : TablesShape) (b : List Bound) (given : InitsGive t b) (rows : Para
       let four = begun_goes f f.state three.1 three.0.0 in
       let five = marks_go ms a four.0 in
       let to_function = by_types s f.state (λ J kept. nodes.specs_keep J kept false specs unspelled s ▸ nodes.rule_keeps J kept r s.at q y.state ▸ parts.function_keeps J kept true k stars x ps i v) g in
-      let to_body = passed f.state a (λ J kept. units.variables_keep J kept f.given _ (units.function_given true k stars x ps i v)) to_function.0 in
+      let to_body = passed_units f.state a (λ J kept. kept.turning f.number f.state ▸ units.variables_keep J kept.all f.given _ (units.function_given true k stars x ps i v)) to_function.0 in
       let to_marks = by_types a m (λ J kept. parts.marks_keep J kept ms a) to_body.1 in
       let number = function_of t (text_of x) in
       let count : (define_parameters t number (form_of f.name) w).variables ≡ length m.tables.variables =
@@ -101,25 +101,25 @@ module _ (t : TablesShape) (b : List Bound) (given : InitsGive t b) (rows : Para
       let y = type_decl d s in
       let c = in_function 0 in
       let later = passed s y.state (λ J kept. units.decl_keeps J kept d s is.0) g in
-      let near = before t (core y.state) (core (type_externals rest y.state).state) (passed y.state (type_externals rest y.state).state (λ J kept. units.externals_keep J kept rest y.state is.1) later.1).0 reach in
+      let near = before t (core y.state) (core (type_externals rest y.state).state) (passed_units y.state (type_externals rest y.state).state (λ J kept. units.externals_keep J kept rest y.state is.1) later.1).0 reach in
       let one = decl_in t b given c d s w is.0 h g near (back (externals_grow rest y.state) clean) n in
       externals_in rest y.state (walk_external t (declared y.decl) w) is.1 one.0.0 later.1 reach clean (omega (arith, external_count t (declared y.decl) w, decl_count t c y.decl w, one.1))
   externals_in (defined specs (declarator stars x (arrays ls) i) ms c ∷ rest) s w is h g reach clean n = absurd is.0.1
   externals_in (defined specs (declarator stars x (function ps) i) ms (braces p ds items) ∷ rest) s w is h g reach clean n =
       let e = defined specs (declarator stars x (function ps) i) ms (braces p ds items) in
       let y = type_external e s in
-      let later = passed s y.state (λ J kept. units.external_keeps J kept e s is.0) g in
-      let near = before t (core y.state) (core (type_externals rest y.state).state) (passed y.state (type_externals rest y.state).state (λ J kept. units.externals_keep J kept rest y.state is.1) later.1).0 reach in
+      let later = passed_units s y.state (λ J kept. units.external_keeps J kept e s is.0) g in
+      let near = before t (core y.state) (core (type_externals rest y.state).state) (passed_units y.state (type_externals rest y.state).state (λ J kept. units.externals_keep J kept rest y.state is.1) later.1).0 reach in
       let one = defined_in specs stars x ps i ms p ds items s w is.0 h g near (back (externals_grow rest y.state) clean) n in
       one.2 (type_externals rest y.state).externals (externals_in rest y.state (walk_external t y.external w) is.1 one.0.0 later.1 reach clean one.1)
 
 -- ---- units
 
-line_kept : (J : Core → Type 0) → Kept J → (l : Option ProgramLine) (s : State) → J (core s) → J (core (type_line l s))
+pub line_kept : (J : Core → Type 0) → Kept J → (l : Option ProgramLine) (s : State) → J (core s) → J (core (type_line l s))
 line_kept J kept None s h = h
 line_kept J kept (Some l) s h = nodes.demand_keeps J kept (is_some (digest_of l.digest)) 37 s.at l.pos s h
 
-line_goes : (l : Option ProgramLine) (s : State) → Knows false s → Goes false s (type_line l s)
+pub line_goes : (l : Option ProgramLine) (s : State) → Knows false s → Goes false s (type_line l s)
 line_goes None s h = stays s h
 line_goes (Some l) s h = demand_goes (is_some (digest_of l.digest)) 37 s.at l.pos s h
 
@@ -127,14 +127,14 @@ no_fields : (o : Bool) (i : ℕ) → fields_in (if o then None else slice_get []
 no_fields true i = refl
 no_fields false i = refl
 
-start_good : (known : Option (List Bool)) → Good (core (start known))
+pub start_good : (known : Option (List Bool)) → Good (core (start known))
 start_good known = (record { tags = (tt, tt); even = refl; bare = λ n e. no_fields (nat_eq n 0) (n - 1) }, (tt, tt), refl)
 
-demand_tables : (o : Bool) (n token : ℕ) (p : Pos) (s : State) → (demand o n token p s).tables ≡ s.tables
+pub demand_tables : (o : Bool) (n token : ℕ) (p : Pos) (s : State) → (demand o n token p s).tables ≡ s.tables
 demand_tables true n token p s = refl
 demand_tables false n token p s = refl
 
-reaches_itself : (t : TablesShape) (s : State) → s.tables ≡ t → Reaches t (core s)
+pub reaches_itself : (t : TablesShape) (s : State) → s.tables ≡ t → Reaches t (core s)
 reaches_itself t s e = record {
   fields = λ n set. ap (λ (x : TablesShape). fields_in (row x.structures n)) (sym e);
   more = [];
@@ -152,10 +152,10 @@ unit_in t b given rows known u is clean e =
 
 -- ---- programs
 
-same_complaints : (u v : UnitShape) → v ≡ (typed_unit u).unit → complaints v ≡ complaints u
+pub same_complaints : (u v : UnitShape) → v ≡ (typed_unit u).unit → complaints v ≡ complaints u
 same_complaints u v e = ap complaints e ∙ ap (λ (x : TypedUnit). x.state.complaints) (typed_again u)
 
-same_tables : (u v : UnitShape) → v ≡ (typed_unit u).unit → (typed_unit v).state.tables ≡ (typed_unit u).state.tables
+pub same_tables : (u v : UnitShape) → v ≡ (typed_unit u).unit → (typed_unit v).state.tables ≡ (typed_unit u).state.tables
 same_tables u v e = ap (λ (x : UnitShape). (typed_unit x).state.tables) e ∙ ap (λ (x : TypedUnit). x.state.tables) (typed_again u)
 
 pub accepted_is_initialised : AcceptedIsInitialised

@@ -32,6 +32,6 @@ ParametersHaveRows = (k : Option TypeOf) (stars : List Star) (x : Option Named) 
 abbrev pub ProgramConstantsHaveValues : Source → Type 0
 ProgramConstantsHaveValues P = (input : List ℕ) (limit : ℕ) (f : Flow) (s : State) → all_made P audible (start input limit) ≡ Gives f s → ConstantsHaveValues P.tables s.file
 
--- these two are left of what is asked of programs of the checker
+-- these two suffice for what is asked of programs of the checker
 abbrev pub AcceptedIsInitialised : Type 0
 AcceptedIsInitialised = ParametersHaveRows → (P : Source) → IsProgram P.unit P.tables → ProgramConstantsHaveValues P → AreInitialised P

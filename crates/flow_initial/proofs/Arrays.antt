@@ -15,7 +15,7 @@ use Rattle.c_tree.specs.Parts.{begun_at, closed, listed_enumeration, opened, tag
 use Rattle.c_tree.specs.Units.{start, type_line, type_externals, any_main, type_unit, bodies}
 use Rattle.flow_initial.specs.Lengths.{IsFilled, HasFilledFields, ArraysAreFilled}
 use Rattle.flow_initial.proofs.Filling.{AreFields, all_and_one, lines_filled}
-use Rattle.flow_initial.proofs.Cores.{Core, core, lines_of, Kept, KeptByAll}
+use Rattle.flow_initial.proofs.Cores.{Core, core, lines_of, Kept, KeptByAll, KeptByUnits}
 use Rattle.flow_initial.proofs.Openings.{opened_keeps}
 use Rattle.flow_initial.proofs.KeepsNodes as nodes
 use Rattle.flow_initial.proofs.KeepsUnits as units
@@ -58,6 +58,9 @@ all_filled = record {
   declaring = λ x k s g h. (h.0, all_and_one (λ (v : VariableShape). IsFilled v.kind) s.tables.variables (record { name = x; kind = k; function = s.function }) h.1 g);
 }
 
+pub units_filled : KeptByUnits HasFilled
+units_filled = record { all = all_filled; turning = λ n s h. h }
+
 line_filled : (l : Option ProgramLine) (s : State) → HasFilled (core s) → HasFilled (core (type_line l s))
 line_filled None s h = h
 line_filled (Some l) s h = nodes.demand_keeps HasFilled types_filled (is_some (digest_of l.digest)) 37 s.at l.pos s h
@@ -66,7 +69,7 @@ unit_filled : (known : Option (List Bool)) (u : UnitShape) → ShapedUnit u → 
 unit_filled known u is =
     let v = type_line u.line (start known) in
     let t = type_externals u.externals v in
-    nodes.demand_keeps HasFilled types_filled (any_main t.state.tables.functions) 38 (t.state.at - 1) u.last t.state (units.externals_keep HasFilled all_filled u.externals v is.all (line_filled u.line (start known) (tt, tt)))
+    nodes.demand_keeps HasFilled types_filled (any_main t.state.tables.functions) 38 (t.state.at - 1) u.last t.state (units.externals_keep HasFilled units_filled u.externals v is.all (line_filled u.line (start known) (tt, tt)))
 
 pub arrays_are_filled : ArraysAreFilled
 arrays_are_filled u is = unit_filled (Some (bodies u)) u is

@@ -6,6 +6,7 @@ use Rattle.c_syntax.specs.declared.tree.Named.{Named}
 use Rattle.c_syntax.specs.Shape.{TypeOf, DeclShapes}
 use Rattle.c_scopes.specs.Rows.{Scope, Scoped}
 use Rattle.c_scopes.specs.Scoping.{find_here}
+use Rattle.c_type_rules.specs.Layouts.{Measure}
 use Rattle.c_tables.specs.Tables.{StructShape, VariableShape}
 use Rattle.c_tree.specs.declared.meaning.Entity.{Entity}
 use Rattle.c_tree.specs.declared.meaning.Tag.{Tag}
@@ -22,9 +23,11 @@ pub record Core : Type 0 where
   pub begun : List Bool
   pub variables : List VariableShape
   pub quiet : Bool
+  pub rooms : List Measure
+  pub function : ℕ
 
 abbrev pub core : State → Core
-core s = record { tags = s.tags; structures = s.tables.structures; begun = s.begun; variables = s.tables.variables; quiet = s.quiet }
+core s = record { tags = s.tags; structures = s.tables.structures; begun = s.begun; variables = s.tables.variables; quiet = s.quiet; rooms = s.rooms; function = s.function }
 
 -- the lines of a member list, behind its tag
 abbrev pub lines_of : Bool → Option Named → DeclShapes → State → TypedDecls
@@ -63,6 +66,11 @@ inside J kept = record { opening = kept.opening; beginning = kept.beginning; clo
 pub record KeptByAll (J : Core → Type 0) : Type 0 where
   pub types : Kept J
   pub declaring : (x : Text) (k : TypeOf) (s : State) → IsFilled k → J (core s) → J (core (with_row x k s))
+
+-- and so does the number of the function whose body begins or ends
+pub record KeptByUnits (J : Core → Type 0) : Type 0 where
+  pub all : KeptByAll J
+  pub turning : (n : ℕ) (s : State) → J (core s) → J (core (record s { function = n }))
 
 infixl 5 ◌▸◌
 pub ◌▸◌ : {A B C : Type 0} → (A → B) → (B → C) → A → C

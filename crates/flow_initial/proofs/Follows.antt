@@ -21,7 +21,7 @@ use Rattle.c_tree.specs.Operators.{heard}
 use Rattle.c_tree.specs.Typing.{type_lines}
 use Rattle.c_tree.specs.Declaring.{with_row, opened_scope, closed_scope}
 use Rattle.flow_initial.proofs.Filling.{all_and_one}
-use Rattle.flow_initial.proofs.Cores.{Core, core, lines_of, Kept, KeptByAll}
+use Rattle.flow_initial.proofs.Cores.{Core, core, lines_of, Kept, KeptByAll, KeptByUnits}
 use Rattle.flow_initial.proofs.Openings.{opened_keeps}
 use Rattle.flow_initial.proofs.RowLists.{all_map, row_at, counted_from_one, where_set, where_unset, where_fields, set_in_front, unset_in_front, last_unset, set_stays, unset_before, set_there, fields_in_front, fields_apart}
 use Rattle.flow_initial.proofs.KeepsNodes as nodes
@@ -116,7 +116,7 @@ begun_kept n = record {
   hushing = λ s t f h. f h;
 }
 
-abbrev BegunAt : Option ℕ → Core → Type 0
+abbrev pub BegunAt : Option ℕ → Core → Type 0
 BegunAt None c = Unit {0}
 BegunAt (Some n) c = HasBegun n c
 
@@ -126,7 +126,7 @@ lines_begun (Some n) ds s h = nodes.lines_keep (HasBegun n) (begun_kept n) ds []
 
 -- ---- what a tag before a list opens wasn't begun
 
-abbrev OpensAt : Option ℕ → Core → Type 0
+abbrev pub OpensAt : Option ℕ → Core → Type 0
 OpensAt None c = Unit {0}
 OpensAt (Some n) c = (1 ≤ n) × (n ≤ length c.begun) × (is_set (row c.begun n) ≡ false)
 
@@ -145,11 +145,11 @@ listed_opens p x None s h g = new_opens (Some x) s h
 listed_opens p x (Some (tag.Structure n)) s h g = there_opens p n s (is_set (row s.begun n)) refl h g
 listed_opens p x (Some tag.Enumeration) s h g = tt
 
-opens : (alone : Bool) (x : Option Named) (s : State) → Sound (core s) → OpensAt (opened alone true x s).number (core (opened alone true x s).state)
+pub opens : (alone : Bool) (x : Option Named) (s : State) → Sound (core s) → OpensAt (opened alone true x s).number (core (opened alone true x s).state)
 opens alone None s h = new_opens None s h
 opens alone (Some x) s h = listed_opens x.pos x.text (find_here x.text s.tags) s h (found_tag (length s.tables.structures) (bytes_eq x.text) s.tags.top h.tags.1)
 
-begun_there : (n : Option ℕ) (s : State) → OpensAt n (core s) → BegunAt n (core (begun_at n s))
+pub begun_there : (n : Option ℕ) (s : State) → OpensAt n (core s) → BegunAt n (core (begun_at n s))
 begun_there None s h = tt
 begun_there (Some n) s h = ap is_set (row_at (changed_at (λ b. true) (n - 1) s.begun) n h.0) ∙ set_there (n - 1) s.begun (omega (arith, h.0, h.1))
 
@@ -204,7 +204,7 @@ module _ (a : Core) where
   apart : (fields : List FieldShape) (m n : ℕ) (rows : List StructShape) → 1 ≤ n → (m ≡ n → ⊥) → fields_in (row (changed_at (λ r. record r { fields = fields }) (n - 1) rows) m) ≡ fields_in (row rows m)
   apart fields m n rows h g = where_fields (nat_eq m 0) _ _ (λ e. fields_apart (λ r. record r { fields = fields }) (n - 1) (m - 1) rows (λ same. g (omega (arith, h, counted_from_one m e, same))))
 
-  differ : (begun : List Bool) (m n : ℕ) → is_set (row begun m) ≡ false → is_set (row begun n) ≡ true → m ≡ n → ⊥
+  pub differ : (begun : List Bool) (m n : ℕ) → is_set (row begun m) ≡ false → is_set (row begun n) ≡ true → m ≡ n → ⊥
   differ begun m n e f same = false≢true (sym e ∙ ap (λ k. is_set (row begun k)) same ∙ f)
 
   closed_follows : (n : Option ℕ) (fields : List FieldShape) (s t : State) → OpensAt n (core s) → BegunAt n (core t) → Follows a (core s) → Follows a (core t) → Follows a (core (closed n fields t))
@@ -282,3 +282,9 @@ module _ (a : Core) where
 
   pub all_follow : KeptByAll (Follows a)
   all_follow = record { types = types_follow; declaring = λ x k s g h. row_follows x k s h }
+
+  pub units_follow : KeptByUnits (Follows a)
+  units_follow = record {
+    all = all_follow;
+    turning = λ n s h. record { sound = record { tags = h.sound.tags; even = h.sound.even; bare = h.sound.bare }; begun = h.begun; fields = h.fields; more = h.more; added = h.added };
+  }

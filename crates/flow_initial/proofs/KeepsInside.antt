@@ -140,7 +140,7 @@ module _ (J : Core → Scope Entity → Type 0) (kept : KeptInside J) where
     pub node_keeps : (a : NodeShape) (s : State) → Keeps s (type_node a s).state
     node_keeps (node p o n f) s = form_keeps p o f (entering f s)
 
-    form_keeps : (p o : Pos) (f : ExprShape) (s : State) → Keeps s (type_form p o f s).state
+    pub form_keeps : (p o : Pos) (f : ExprShape) (s : State) → Keeps s (type_form p o f s).state
     form_keeps p o (leaf (number t)) s = demand_keeps _ 33 s.at p s
     form_keeps p o (leaf (char c)) s = as_it_was s
     form_keeps p o (leaf (str t)) s = literal_keeps s.quiet t s ▸ rule_keeps _ s.at p (with_literal t s)

@@ -2,12 +2,12 @@
 use Rattle.std.specs.Prelude.{ℕ, List, Option, Bool}
 use Rattle.c_base.specs.declared.place.Pos.{Pos}
 use Rattle.c_syntax.specs.declared.text.Text.{Text}
-use Rattle.c_syntax.specs.Shape.{TypeOf, Probing, NodeShape, LengthShapes, SpecShapes, DeclShapes}
+use Rattle.c_syntax.specs.Shape.{TypeOf, Probing, NodeShape, ExprShape, LengthShapes, SpecShapes, DeclShapes}
 use Rattle.c_tables.specs.Tables.{FieldShape}
 use Rattle.c_tree.specs.State.{State, complain, demand, numbered_or, pushed_function}
 use Rattle.c_tree.specs.Rulings.{Ruled, rule}
 use Rattle.c_tree.specs.Operators.{claim}
-use Rattle.c_tree.specs.Typing.{type_node, type_lengths, type_specs, type_lines}
+use Rattle.c_tree.specs.Typing.{type_node, type_form, type_lengths, type_specs, type_lines}
 use Rattle.c_tree.specs.Parts.{Length, Spelled}
 use Rattle.flow_initial.proofs.Cores.{Core, core, Kept, inside}
 use Rattle.flow_initial.proofs.KeepsInside as within
@@ -33,6 +33,9 @@ module _ (J : Core → Type 0) (kept : Kept J) where
 
   pub node_keeps : (a : NodeShape) (s : State) → Keeps s (type_node a s).state
   node_keeps = within.node_keeps (λ c names. J c) (inside J kept)
+
+  pub form_keeps : (p o : Pos) (f : ExprShape) (s : State) → Keeps s (type_form p o f s).state
+  form_keeps = within.form_keeps (λ c names. J c) (inside J kept)
 
   pub lengths_keep : (ls : List Length) (l : LengthShapes) (s : State) → Keeps s (type_lengths ls l s).state
   lengths_keep = within.lengths_keep (λ c names. J c) (inside J kept)

@@ -17,12 +17,12 @@ use Rattle.c_tree.specs.Sorts.{pos_in}
 use Rattle.c_tree.specs.Parts.{unspelled, spelled_rule, star_tokens, pointed}
 use Rattle.c_tree.specs.Typing.{type_node, type_specs, type_lengths}
 use Rattle.c_tree.specs.Initialisers.{lengths_with}
-use Rattle.c_tree.specs.Declaring.{name_tokens, claim_name, token_of_name, with_variable, variable_at, declare_variable, variable_rule, has_init, type_variable, type_param, type_param_list, type_params, opened_scope, type_function, type_declarator, type_declarators, none_declared, semicolon, type_decl, type_decls}
+use Rattle.c_tree.specs.Declaring.{name_tokens, claim_name, token_of_name, with_variable, variable_at, declare_variable, variable_rule, has_init, type_variable, type_param, type_param_list, type_params, opened_scope, closed_scope, type_function, type_declarator, type_declarators, none_declared, semicolon, type_decl, type_decls}
 use Rattle.c_tree.specs.Stating.{Surroundings, in_loop, in_switch, Labels, no_labels, tested, switched, type_maybe, type_test, type_marks, type_labels, type_stmt, type_body, type_compound, type_items}
 use Rattle.c_tree.specs.Units.{specs_place, with_variables, variable_of, begun_function, type_external, type_externals}
 use Rattle.c_syntax.specs.Shaped.{ShapedInitOf, ShapedDecl, ShapedDecls, ShapedDeclarator, ShapedDeclarators, ShapedStmt, ShapedForm, ShapedCompound, ShapedItems, ShapedExternal, ShapedExternals, in_names}
 use Rattle.flow_initial.proofs.Filling.{Filled, lengths_counted, with_counted, pointed_filled, specs_filled, variable_filled, parameter_filled}
-use Rattle.flow_initial.proofs.Cores.{Core, core, KeptByAll, ◌▸◌}
+use Rattle.flow_initial.proofs.Cores.{Core, core, KeptByAll, KeptByUnits, ◌▸◌}
 use Rattle.flow_initial.proofs.KeepsNodes as nodes
 use Rattle.flow_initial.proofs.KeepsParts as parts
 
@@ -158,9 +158,11 @@ module _ (J : Core → Type 0) (kept : KeptByAll J) where
   variables_keep [] s g = as_it_was s
   variables_keep ((x, k) ∷ rest) s g = variable_of_keeps x k (find_here x s.names) s g.0 ▸ variables_keep rest (variable_of x k (find_here x s.names) s) g.1
 
-  pub external_keeps : (e : ExternalShape) (s : State) → ShapedExternal e → Keeps s (type_external e s).state
-  external_keeps (declared d) s is = decl_keeps d s is
+module _ (J : Core → Type 0) (whole : KeptByUnits J) where
+  pub external_keeps : (e : ExternalShape) (s : State) → ShapedExternal e → Keeps J whole.all s (type_external e s).state
+  external_keeps (declared d) s is = decl_keeps J whole.all d s is
   external_keeps (defined specs (declarator stars x (function ps) i) ms c) s is =
+      let kept = whole.all in
       let t = type_specs false specs unspelled s in
       let r = spelled_rule t.spelled in
       let q = specs_place specs in
@@ -169,10 +171,10 @@ module _ (J : Core → Type 0) (kept : KeptByAll J) where
       let b = begun_function f f.state in
       let w = type_marks ms b in
       let e : Surroundings = record { loop = false; breakable = false; result = kind_at (by 33 (result_type (pointed stars (kind_at r)))) } in
-      nodes.specs_keep J kept.types false specs unspelled s ▸ nodes.rule_keeps J kept.types r s.at q t.state ▸ parts.function_keeps J kept.types true (kind_at r) stars x ps i v ▸ variables_keep f.given _ (function_given true (kind_at r) stars x ps i v) ▸ parts.marks_keep J kept.types ms b
-      ▸ compound_keeps e c w is.3 ▸ kept.types.leaving (type_compound e c w).state
-  external_keeps (defined specs (declarator stars x (arrays ls) i) ms c) s is = nodes.complain_keeps J kept.types 33 s.at first_place s
+      nodes.specs_keep J kept.types false specs unspelled s ▸ nodes.rule_keeps J kept.types r s.at q t.state ▸ parts.function_keeps J kept.types true (kind_at r) stars x ps i v ▸ whole.turning f.number f.state
+      ▸ variables_keep J kept f.given _ (function_given true (kind_at r) stars x ps i v) ▸ parts.marks_keep J kept.types ms b ▸ compound_keeps J kept e c w is.3 ▸ kept.types.leaving (type_compound e c w).state ▸ whole.turning 0 (closed_scope (type_compound e c w).state)
+  external_keeps (defined specs (declarator stars x (arrays ls) i) ms c) s is = nodes.complain_keeps J whole.all.types 33 s.at first_place s
 
-  pub externals_keep : (es : List ExternalShape) (s : State) → ShapedExternals es → Keeps s (type_externals es s).state
-  externals_keep [] s is = as_it_was s
+  pub externals_keep : (es : List ExternalShape) (s : State) → ShapedExternals es → Keeps J whole.all s (type_externals es s).state
+  externals_keep [] s is = λ h. h
   externals_keep (e ∷ rest) s is = external_keeps e s is.0 ▸ externals_keep rest (type_external e s).state is.1

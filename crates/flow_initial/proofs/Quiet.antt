@@ -6,7 +6,7 @@ use Rattle.c_tables.specs.Tables.{FieldShape}
 use Rattle.c_tree.specs.declared.meaning.Tag.{Tag}
 use Rattle.c_tree.specs.State.{State}
 use Rattle.c_tree.specs.Parts.{begun_at, closed, listed_enumeration, opened}
-use Rattle.flow_initial.proofs.Cores.{Core, core, lines_of, Kept, KeptByAll}
+use Rattle.flow_initial.proofs.Cores.{Core, core, lines_of, Kept, KeptByAll, KeptByUnits}
 use Rattle.flow_initial.proofs.Openings.{opened_keeps}
 
 abbrev pub IsQuiet : Bool → Core → Type 0
@@ -37,3 +37,6 @@ types_quiet q = record {
 
 pub all_quiet : (q : Bool) → KeptByAll (IsQuiet q)
 all_quiet q = record { types = types_quiet q; declaring = λ x k s g h. h }
+
+pub units_quiet : (q : Bool) → KeptByUnits (IsQuiet q)
+units_quiet q = record { all = all_quiet q; turning = λ n s h. h }

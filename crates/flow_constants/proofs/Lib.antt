@@ -1,0 +1,17 @@
+pub mod Placed
+pub mod Integers
+pub mod Strings
+pub mod Nesting
+pub mod Standing
+pub mod Noted
+pub mod Told
+pub mod Values
+pub mod Laid
+pub mod Closing
+pub mod LaidKept
+pub mod Ending
+pub mod Owning
+pub mod FileRoom
+pub mod FileUnits
+pub mod FileRuns
+pub mod Programs
