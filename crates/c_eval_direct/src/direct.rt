@@ -16,7 +16,7 @@ ghost use Rattle.c_eval_once.specs.Parts.{value};
 ghost use Rattle.c_eval_once.specs.Forms.{Kept, Meets, Stands, IsAtOnce, IsFewer, IsNearer, is_address, is_deref, is_valued, standing};
 ghost use Rattle.c_eval_direct.specs.Direct.{is_copied, is_judged, is_direct, is_direct_place};
 
-use crate::forms::{is_deref, is_direct};
+use crate::forms::{LEVELS, is_deref, is_direct};
 use crate::parts::{behind_probes, fetch, judge, named, settle, variable};
 use c_compute::operators::{is_true, target};
 use c_eval_once::at_once::{at_once, constant};
@@ -30,9 +30,6 @@ use c_syntax::text::Text;
 use c_syntax::tree::{BinaryOp, Expr, ExprProbe, Node, StepOp, UnaryOp};
 use c_tables::tables::Tables;
 use c_world::world::World;
-
-/// How many levels a direct expression has at most.
-const LEVELS: u32 = 12;
 
 /// The value of a direct expression, whose turns are taken and whose events are logged; `None` for any other node, and nothing
 /// is done.
@@ -57,9 +54,9 @@ pub fn direct(tables: &Tables, world: &mut World, node: &Node) -> Option<Answer>
 
 // ---- values
 
-// The value of a direct expression.
+/// The value of a direct expression, whose turns are taken and whose events are logged.
 #[cycle(direct)]
-fn value(tables: &Tables, world: &mut World, node: &Node) -> Answer
+pub fn value(tables: &Tables, world: &mut World, node: &Node) -> Answer
     requires { is_direct node.now.note node.now.form ≡ true }
     ensures is { (k : Knot) (h : List Event) → Meets result (state_of world.new h) (value (tables_shape tables.now) k (node_shape node.now) (state_of world.old h)) }
     ensures kept { Kept world.old world.new }

@@ -6,6 +6,9 @@ ghost use Rattle.c_eval_once.specs.Forms.{is_address, is_deref, is_of_place, is_
 
 use c_syntax::tree::{CType, Expr, ExprProbe, Node, Note, UnaryOp};
 
+/// How many levels a direct expression has at most.
+pub const LEVELS: u32 = 12;
+
 /// The node is direct, with at most so many levels.
 #[cycle(forms)]
 pub fn is_direct(node: &Node, levels: u32) -> bool

@@ -2,5 +2,5 @@
 #![tactic(auto)]
 
 pub mod direct;
-mod forms;
+pub mod forms;
 mod parts;
