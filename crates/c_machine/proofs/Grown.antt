@@ -49,6 +49,9 @@ use Rattle.c_machine.specs.declared.parts.Active.TheVariants as active
 use Rattle.c_machine.specs.declared.parts.Step.{Step}
 use Rattle.c_machine.specs.declared.parts.Step.TheVariants as step
 use Rattle.c_machine.specs.declared.machine.Machine.{Machine}
+use Rattle.c_machine.specs.declared.running.Ended.{Ended}
+use Rattle.c_machine.specs.declared.running.Ended.TheVariants as ended
+use Rattle.c_machine.specs.Run.{ended_as}
 use Rattle.c_machine.specs.declared.machine.Begun.{Begun}
 use Rattle.c_machine.specs.declared.machine.Begun.TheVariants as begun
 use Rattle.c_machine.specs.Todo.{Leaver, part_flow, other_flow, chosen_flow, loop_of, again_flow, next_flow, behind_body, tested_flow, switch_flow, block_flow, init_flow, needed_flow, stmt_flow, use_flow, uses, resumed, waits, all_wait, at_end, active_left, behind, left_in, left_after, begun_left, knot_of}
@@ -241,6 +244,7 @@ module _ (t : TablesShape) (k : Knot) (keeps : Keeps IsLater IsLater IsLater IsL
   active_later : (a : Active) (w : Work) (u : Use) (go : Leaver) → Onward go → (s : State) → Later s (active_left t k a w u go s)
   active_later (active.Open p) w u go onward s = on s _ go (stmt_later false (stmt_shape p.stmt.now) (quiet p.before) s) onward
   active_later (active.Left f) w u go onward s = onward f s
+  active_later (active.Turn l) w u go onward s = on s _ go (next_later (loop_of t (form_shape l.placed.stmt.now.form) l.placed.before) s) onward
   active_later active.Busy w u go onward s = on s _ _ (work_later t k keeps w s) (uses_later u go onward)
 
   rest_later : (m : Machine) → Onward (behind t k m)
@@ -258,11 +262,14 @@ machine_later P m s = todo_later (tables_shape P.tables) (knot_of P) (calls_late
 pub machine_grown : (P : Program) (m : Machine) (s : State) (l : List Event) → IsFront l s.log → Grown l (left_in (tables_shape P.tables) (knot_of P) m s)
 machine_grown P m s l f = grown_later l s (left_in (tables_shape P.tables) (knot_of P) m s) f (machine_later P m s)
 
+ended_later : (e : Ended) (s : State) → Lasted IsLater IsLater s (ended_as e s)
+ended_later (ended.Returned v) s = still v s
+ended_later (ended.Stopped why) s = at_rest IsLater IsLater IsLater IsLater later_lasts _ _ (later_lasts.same s)
+
 -- the same after a step
 pub machine_after : (P : Program) (a : Step) (m : Machine) (s : State) → Lasted IsLater IsLater s (left_after (tables_shape P.tables) (knot_of P) a m s)
 machine_after P step.More m s = machine_later P m s
-machine_after P (step.Done v) m s = still v s
-machine_after P (step.Stopped why) m s = at_rest IsLater IsLater IsLater IsLater later_lasts _ _ (later_lasts.same s)
+machine_after P step.Ended m s = ended_later m.ended s
 
 -- and as the run begins
 pub begun_later : (P : Program) (b : Begun) (s : State) → Lasted IsLater IsLater s (begun_left (tables_shape P.tables) (knot_of P) b s)

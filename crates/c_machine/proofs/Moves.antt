@@ -12,13 +12,11 @@ use Rattle.c_machine.specs.Todo.{scopes_with, scopes_on, open_scopes, OnMore}
 
 pub more_if : (a : Step) (A B : Type 0) → OnMore a A → (A → B) → OnMore a B
 more_if step.More A B h f = f h
-more_if (step.Done v) A B h f = tt
-more_if (step.Stopped why) A B h f = tt
+more_if step.Ended A B h f = tt
 
 pub on_more : (a : Step) (A : Type 0) → A → OnMore a A
 on_more step.More A h = h
-on_more (step.Done v) A h = tt
-on_more (step.Stopped why) A h = tt
+on_more step.Ended A h = tt
 
 -- ---- scopes
 

@@ -1,4 +1,3 @@
 pub mod Todo
 pub mod Forms
-pub mod Kept
 pub mod Run

@@ -43,6 +43,9 @@ use Rattle.c_machine.specs.declared.parts.Active.TheVariants as active
 use Rattle.c_machine.specs.declared.parts.Step.{Step}
 use Rattle.c_machine.specs.declared.parts.Step.TheVariants as step
 use Rattle.c_machine.specs.declared.machine.Machine.{Machine}
+use Rattle.c_machine.specs.declared.running.Ended.{Ended}
+use Rattle.c_machine.specs.declared.running.Ended.TheVariants as ended
+use Rattle.c_machine.specs.Run.{ended_as}
 use Rattle.c_machine.specs.declared.machine.Begun.{Begun}
 use Rattle.c_machine.specs.declared.machine.Begun.TheVariants as begun
 
@@ -179,16 +182,12 @@ abbrev pub gave : Option (Option Value) → State → Got (Option Value)
 gave None s = untyped s
 gave (Some v) s = Gives v (left s)
 
--- probes have told what they tell, or one has no number
-abbrev pub told : Bool → State → (State → Got Flow) → Got Flow
-told true s go = go s
-told false s go = untyped s
-
 -- ---- machines
 
 abbrev pub active_left : TablesShape → Knot → Active → Work → Use → Leaver → State → Got (Option Value)
 active_left t k (active.Open p) work u go s = then_do (flow t k false (stmt_shape p.stmt.now) (quiet p.before) s) go
 active_left t k (active.Left f) work u go s = go f s
+active_left t k (active.Turn l) work u go s = then_do (next_flow t k (loop_of t (form_shape l.placed.stmt.now.form) l.placed.before) s) go
 active_left t k active.Busy work u go s = then_do (rest t k work s) (uses t k u go)
 
 -- what waits in a machine
@@ -201,8 +200,7 @@ left_in t k m s = active_left t k m.active m.work m.used (behind t k m) s
 
 abbrev pub left_after : TablesShape → Knot → Step → Machine → State → Got (Option Value)
 left_after t k step.More m s = left_in t k m s
-left_after t k (step.Done v) m s = Gives v s
-left_after t k (step.Stopped why) m s = Stops why s
+left_after t k step.Ended m s = ended_as m.ended s
 
 -- with the functions and loops of a program
 abbrev pub knot_of : Program → Knot
@@ -228,6 +226,7 @@ open_scopes ws = scopes_on ws (1 ∷ [])
 abbrev pub active_size : Active → Work → ℕ
 active_size (active.Open p) work = 0
 active_size (active.Left f) work = 1
+active_size (active.Turn l) work = 1
 active_size active.Busy work = 3 * size work
 
 abbrev pub weight : Waiting → ℕ
@@ -262,14 +261,17 @@ Tied m w = scope_counts w.names.calls ≡ open_scopes m.waiting.items
 -- so it is, where the run goes on
 abbrev pub OnMore : Step → Type 0 → Type 0
 OnMore step.More A = A
-OnMore (step.Done v) A = Unit {0}
-OnMore (step.Stopped why) A = Unit {0}
+OnMore step.Ended A = Unit {0}
 
--- it goes on or stops
-abbrev pub IsOn : Step → Type 0
-IsOn step.More = Unit {0}
-IsOn (step.Done v) = ⊥
-IsOn (step.Stopped why) = Unit {0}
+-- it was stopped
+abbrev pub HasStopped : Ended → Type 0
+HasStopped (ended.Returned v) = ⊥
+HasStopped (ended.Stopped why) = Unit {0}
+
+-- the machine goes on or stops
+abbrev pub IsOn : Step → Machine → Type 0
+IsOn step.More m = Unit {0}
+IsOn step.Ended m = HasStopped m.ended
 
 -- ---- the beginning of a run
 

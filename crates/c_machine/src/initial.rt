@@ -14,7 +14,7 @@ ghost use Rattle.c_world.specs.Names.{IsActive, scope_counts};
 ghost use Rattle.c_world.specs.Steps.{filled_object};
 ghost use Rattle.c_world.specs.World.{state_of, tables_of, answered, Same};
 ghost use Rattle.c_machine.specs.Forms.{is_array_kind};
-ghost use Rattle.c_machine.specs.Kept.{Kept};
+ghost use Rattle.c_machine_direct.specs.Kept.{Kept};
 ghost use Rattle.c_machine.specs.Todo.{init_flow, declared_as};
 
 use crate::parts::{Declared, Use};

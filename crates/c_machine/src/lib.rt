@@ -5,7 +5,6 @@ mod entry;
 mod first;
 mod initial;
 mod machine;
-mod marks;
 mod parts;
 mod running;
 

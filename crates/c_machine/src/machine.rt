@@ -9,14 +9,16 @@ mod listing;
 mod looping;
 mod returning;
 mod stepping;
+mod turning;
 
+use crate::running::Ended;
 use crate::parts::{Active, Use, Waiting};
 use c_eval::frame::Frame;
 use c_eval::work::Work;
 use c_meaning::end::Stop;
 
-/// A call of a function, as far as it has come, with what waits for statements to leave, the last one on top; and stacks that
-/// are done with, for the expressions of the next calls.
+/// A call of a function, as far as it has come, with what waits for statements to leave, the last one on top; stacks that are
+/// done with, for the expressions of the next calls; and how the run has ended, once a step says that it has.
 #[derive(Drop)]
 pub struct Machine<'p> {
     pub function: u32,
@@ -25,6 +27,7 @@ pub struct Machine<'p> {
     pub used: Use<'p>,
     pub waiting: Vec<Waiting<'p>>,
     pub spare: Vec<Vec<Frame<'p>>>,
+    pub ended: Ended,
 }
 
 /// How a run begins: a machine runs, or the run stops.

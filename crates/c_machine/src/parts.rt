@@ -1,11 +1,13 @@
 //! What waits for a statement to leave, and what comes next.
 
+ghost use Rattle.std.specs.Prelude.{◌≡◌, true};
+ghost use Rattle.c_machine_direct.specs.Forms.{is_direct_loop};
+
 use c_eval::frame::Frame;
-use c_meaning::end::{Flow, Stop};
+use c_meaning::end::Flow;
 use c_plan::block::Block;
 use c_plan::placed::Placed;
 use c_plan::sequence::Sequence;
-use c_store::value::Value;
 use c_syntax::tree::{Named, Node};
 
 /// What the value of an expression chooses in its statement: of an `if`; the next turn of a loop, or none; the next turn
@@ -49,18 +51,26 @@ pub enum Waiting<'p> {
     Caller(u32, Vec<Frame<'p>>, Use<'p>),
 }
 
-/// What comes next: a statement is begun; one was left; an expression is evaluated.
+/// A loop whose test, step and body are done at once, at each of its turns.
+#[derive(Clone, Copy, Drop)]
+pub struct Turning<'p> {
+    pub placed: Placed<'p>,
+    ghost direct: { is_direct_loop placed.stmt.now.form ≡ true },
+}
+
+/// What comes next: a statement is begun; one was left; the body of such a loop was left, for its next turn; an expression is
+/// evaluated.
 #[derive(Clone, Copy, Drop)]
 pub enum Active<'p> {
     Open(Placed<'p>),
     Left(Flow),
+    Turn(Turning<'p>),
     Busy,
 }
 
-/// How a step leaves: there is more to do; the first function has returned, with a value or without; the run stops.
+/// How a step leaves: there is more to do, or the run has ended, as the machine then says.
 #[derive(Clone, Copy, Drop)]
 pub enum Step {
     More,
-    Done(Option<Value>),
-    Stopped(Stop),
+    Ended,
 }

@@ -174,8 +174,7 @@ fn follow<'p, P: Probes>(
         tell(world, probes)?;
         match step {
             Step::More => {}
-            Step::Done(value) => return Ok(Ended::Returned(value)),
-            Step::Stopped(why) => return Ok(Ended::Stopped(why)),
+            Step::Ended => return Ok(machine.ended),
         }
     }
 }

@@ -11,8 +11,7 @@ ghost use Rattle.c_machine.specs.Todo.{again_flow, loop_of, block_flow, LeavesIn
 ghost use Rattle.c_world.specs.World.{Same};
 
 use super::Machine;
-use super::leaving::untyped;
-use crate::marks::log_marks;
+use c_machine_direct::marks::log_marks;
 use crate::parts::{Purpose, Step, Use, Waiting};
 use c_base::place::NoMemory;
 use c_compute::operators::is_true;
@@ -41,7 +40,7 @@ impl<'p> Machine<'p> {
         ensures same { OnOk result (Same world.old world.new) }
     {
         if !log_marks(world, &placed.stmt.probes)? {
-            return Ok(untyped());
+            return Ok(self.untyped());
         }
         let step = self.take_turn(plan, world, placed)?;
         Ok(step)
@@ -66,7 +65,7 @@ impl<'p> Machine<'p> {
             let step = self.begin(plan, world, placed)?;
             return Ok(step);
         }
-        Ok(Step::Stopped(Stop::Turns))
+        Ok(self.stop(Stop::Turns))
     }
 
     // A statement, whose turn was taken.
@@ -162,7 +161,7 @@ impl<'p> Machine<'p> {
             Some(node) => match direct(world.tables(), world, node) {
                 None => Ok(self.work_at(node, Use::Discard)),
                 Some(Answer::NoMemory) => Err(NoMemory),
-                Some(Answer::Stopped(why)) => Ok(Step::Stopped(why)),
+                Some(Answer::Stopped(why)) => Ok(self.stop(why)),
                 Some(Answer::Value(_)) => Ok(self.leave(Flow::Next)),
             },
         }
@@ -187,7 +186,7 @@ impl<'p> Machine<'p> {
         match direct(world.tables(), world, test) {
             None => Ok(self.work_at(test, Use::Stmt(Purpose::Choose, placed))),
             Some(Answer::NoMemory) => Err(NoMemory),
-            Some(Answer::Stopped(why)) => Ok(Step::Stopped(why)),
+            Some(Answer::Stopped(why)) => Ok(self.stop(why)),
             Some(Answer::Value(value)) => Ok(self.choose(placed, is_true(value))),
         }
     }
@@ -240,7 +239,7 @@ impl<'p> Machine<'p> {
             Some(node) => match direct(world.tables(), world, node) {
                 None => Ok(self.work_at(node, Use::Return)),
                 Some(Answer::NoMemory) => Err(NoMemory),
-                Some(Answer::Stopped(why)) => Ok(Step::Stopped(why)),
+                Some(Answer::Stopped(why)) => Ok(self.stop(why)),
                 Some(Answer::Value(value)) => Ok(self.leave(Flow::Return(Some(value)))),
             },
         }

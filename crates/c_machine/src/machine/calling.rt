@@ -17,9 +17,9 @@ ghost use Rattle.c_world.specs.World.{state_of, Same};
 ghost use Rattle.c_eval.specs.Rest.{weights};
 ghost use Rattle.c_machine.specs.Todo.{entered_flow, resumed, behind, knot_of, begun_left, OnRunning, left_after, LeavesIn, Tied, OnMore, IsOn, open_scopes, all_weights, machine_size};
 
-use super::leaving::untyped;
 use super::{Begun, Machine};
-use crate::marks::log_marks;
+use c_machine_direct::marks::log_marks;
+use crate::running::Ended;
 use crate::parts::{Active, Step, Use, Waiting};
 use c_base::place::NoMemory;
 use c_eval::frame::{Focus, Frame};
@@ -59,11 +59,14 @@ impl<'p> Machine<'p> {
             used: Use::Discard,
             waiting: Vec::new(alloc),
             spare: Vec::new(alloc),
+            ended: Ended::Returned(None),
         };
         match machine.enter(plan, world, function, &[])? {
             Step::More => Ok(Begun::Running(machine)),
-            Step::Stopped(why) => Ok(Begun::Stopped(why)),
-            Step::Done(_) => unreachable!(),
+            Step::Ended => match machine.ended {
+                Ended::Stopped(why) => Ok(Begun::Stopped(why)),
+                Ended::Returned(_) => unreachable!(),
+            },
         }
     }
 
@@ -118,16 +121,16 @@ impl<'p> Machine<'p> {
         requires program { world.old.program.now ≡ plan.now.program.now }
         requires tied { 1 ∷ scope_counts world.old.names.calls ≡ open_scopes self.old.waiting.items }
         ensures left { IfOk result (λ a. LeavesIn plan.now.program.now a self.new world.new self.old world.old (λ t k. entered_flow t k function (routine (source_of plan.now.program.now) silent function) args.now)) }
-        ensures goes { IfOk result IsOn }
+        ensures goes { IfOk result (λ a. IsOn a self.new) }
         ensures tied { IfOk result (λ a. OnMore a (Tied self.new world.new)) }
         ensures falls { IfOk result (λ a. OnMore a (12 * world.new.turns + machine_size self.new < 12 * world.old.turns + all_weights self.old.waiting.items)) }
         ensures same { OnOk result (Same world.old world.new) }
     {
         let Some(called) = world.routine(function) else {
-            return Ok(untyped());
+            return Ok(self.untyped());
         };
         match world.enter(function, &called, args)? {
-            Some(why) => Ok(Step::Stopped(why)),
+            Some(why) => Ok(self.stop(why)),
             None => {
                 let step = self.body(plan, world, function, &called)?;
                 Ok(step)
@@ -147,13 +150,13 @@ impl<'p> Machine<'p> {
         requires tied { Tied self.old world.old }
         requires found { routine (source_of plan.now.program.now) silent function ≡ Some (routine_of called.now) }
         ensures left { IfOk result (λ a. LeavesIn plan.now.program.now a self.new world.new self.old world.old (λ t k s. marks_log called.now.marks.now s (λ s. turn s (compound_flow t k (compound_shape called.now.body.now) (quiet (called.now.before + signature_variables (decl_form_shape called.now.params.now))))))) }
-        ensures goes { IfOk result IsOn }
+        ensures goes { IfOk result (λ a. IsOn a self.new) }
         ensures tied { IfOk result (λ a. OnMore a (Tied self.new world.new)) }
         ensures falls { IfOk result (λ a. OnMore a (12 * world.new.turns + machine_size self.new < 12 * world.old.turns + all_weights self.old.waiting.items)) }
         ensures same { OnOk result (Same world.old world.new) }
     {
         if !log_marks(world, called.marks)? {
-            return Ok(untyped());
+            return Ok(self.untyped());
         }
         let step = self.turn_to_body(plan, world, function, called)?;
         Ok(step)
@@ -172,7 +175,7 @@ impl<'p> Machine<'p> {
         requires tied { Tied self.old world.old }
         requires found { routine (source_of plan.now.program.now) silent function ≡ Some (routine_of called.now) }
         ensures left { IfOk result (λ a. LeavesIn plan.now.program.now a self.new world.new self.old world.old (λ t k s. turn s (compound_flow t k (compound_shape called.now.body.now) (quiet (called.now.before + signature_variables (decl_form_shape called.now.params.now)))))) }
-        ensures goes { IfOk result IsOn }
+        ensures goes { IfOk result (λ a. IsOn a self.new) }
         ensures tied { IfOk result (λ a. OnMore a (Tied self.new world.new)) }
         ensures falls { IfOk result (λ a. OnMore a (12 * world.new.turns + machine_size self.new < 12 * world.old.turns + all_weights self.old.waiting.items)) }
         ensures same { OnOk result (Same world.old world.new) }
@@ -181,6 +184,6 @@ impl<'p> Machine<'p> {
             let step = self.declare(plan, world, plan.body(function, called))?;
             return Ok(step);
         }
-        Ok(Step::Stopped(Stop::Turns))
+        Ok(self.stop(Stop::Turns))
     }
 }

@@ -10,7 +10,6 @@ ghost use Rattle.c_machine.specs.Forms.{entry_shape};
 ghost use Rattle.c_machine.specs.Todo.{chosen_flow, switch_flow, Leaves, OnMore, open_scopes, all_weights, machine_size};
 
 use super::Machine;
-use super::leaving::untyped;
 use crate::entry::{Entry, entry_of, is_reached, passed};
 use crate::parts::{Step, Waiting};
 use c_base::place::NoMemory;
@@ -30,7 +29,7 @@ impl<'p> Machine<'p> {
     {
         if holds {
             match placed.first() {
-                None => untyped(),
+                None => self.untyped(),
                 Some(first) => self.open_at(first),
             }
         } else {
@@ -48,11 +47,11 @@ impl<'p> Machine<'p> {
         ensures size { IfOk result (λ a. OnMore a (machine_size self.new ≤ 2 + all_weights self.old.waiting.items)) }
     {
         let StmtForm::Switch(chosen, items) = &placed.stmt.form else {
-            return Ok(untyped());
+            return Ok(self.untyped());
         };
         let entry = entry_of(chosen, items, value)?;
         match placed.items() {
-            None => Ok(untyped()),
+            None => Ok(self.untyped()),
             Some(sequence) => {
                 self.wait(Waiting::Switch)?;
                 let step = self.list_from(entry, sequence)?;

@@ -25,7 +25,7 @@ impl<'p> Machine<'p> {
         requires program { world.old.program.now ≡ plan.now.program.now }
         requires tied { Tied self.old world.old }
         ensures left { IfOk result (λ a. LeavesIn plan.now.program.now a self.new world.new self.old world.old (λ t k. block_flow t k (names_ahead block.entry) (item_list block.entry.items.now.items) block.entry.before)) }
-        ensures goes { IfOk result IsOn }
+        ensures goes { IfOk result (λ a. IsOn a self.new) }
         ensures tied { IfOk result (λ a. OnMore a (Tied self.new world.new)) }
         ensures size { IfOk result (λ a. OnMore a (12 * world.new.turns + machine_size self.new ≤ 12 * world.old.turns + 1 + all_weights self.old.waiting.items)) }
         ensures same { OnOk result (Same world.old world.new) }
@@ -39,7 +39,7 @@ impl<'p> Machine<'p> {
                 Ahead::Name(declarator, rest) => {
                     match declare_one(world, declarator, rest.before)? {
                         Declared::Done => block = rest,
-                        Declared::Stopped(why) => return Ok(Step::Stopped(why)),
+                        Declared::Stopped(why) => return Ok(self.stop(why)),
                         Declared::Value(node, used) => {
                             self.wait(Waiting::Names(rest))?;
                             return Ok(self.work_at(node, used));

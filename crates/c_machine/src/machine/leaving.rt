@@ -4,7 +4,7 @@ ghost use Rattle.std.specs.Prelude.{◌≡◌, ◌+◌, false, OnOk};
 ghost use Rattle.c_syntax.specs.View.{node_shape, stmt_shape};
 ghost use Rattle.c_tables.specs.Tables.{TablesShape};
 ghost use Rattle.c_meaning.specs.State.{State};
-ghost use Rattle.c_meaning.specs.Results.{Gives, then_do};
+ghost use Rattle.c_meaning.specs.Results.{Gives, Stops, then_do};
 ghost use Rattle.c_meaning.specs.Firsts.{quiet};
 ghost use Rattle.c_meaning.specs.Knot.{Knot};
 ghost use Rattle.c_meaning.specs.Statements.{flow};
@@ -13,10 +13,11 @@ ghost use Rattle.c_machine.specs.Todo.{uses, waits, behind, left_after, Leaves, 
 
 use super::Machine;
 use crate::parts::{Active, Step, Use, Waiting};
+use crate::running::Ended;
 use c_base::place::NoMemory;
 use c_meaning::end::{Flow, Stop};
 use c_plan::placed::Placed;
-use c_store::value::Fault;
+use c_store::value::{Fault, Value};
 use c_syntax::tree::Node;
 
 #[tactic(auto, using(crate::proofs::Stacks::waits_push, crate::proofs::Stacks::scopes_push, crate::proofs::Stacks::weights_push))]
@@ -71,12 +72,43 @@ impl<'p> Machine<'p> {
         self.active = Active::Open(placed);
         Step::More
     }
-}
 
-// What no typed program does.
-#[inline(always)]
-pub(super) fn untyped() -> Step
-    ensures { result ≡ Step.Stopped (Stop.Fault Fault.NoResult) }
-{
-    Step::Stopped(Stop::Fault(Fault::NoResult))
+    // The run ends so.
+    #[inline(always)]
+    fn end(&mut self, ended: Ended) -> Step
+        ensures ended { result ≡ Step.Ended }
+        ensures is { self.new ≡ record self.old { ended = ended } }
+    {
+        self.ended = ended;
+        Step::Ended
+    }
+
+    // The first function has returned, with a value or without.
+    #[inline(always)]
+    pub(super) fn done(&mut self, value: Option<Value>) -> Step
+        ensures left { (t : TablesShape) (k : Knot) (s : State) → left_after t k result self.new s ≡ Gives value s }
+        ensures ended { result ≡ Step.Ended }
+    {
+        self.end(Ended::Returned(value))
+    }
+
+    // The run stops.
+    #[inline(always)]
+    pub(super) fn stop(&mut self, why: Stop) -> Step
+        ensures left { (t : TablesShape) (k : Knot) (s : State) → left_after t k result self.new s ≡ Stops why s }
+        ensures ended { result ≡ Step.Ended }
+        ensures why { self.new.ended ≡ Ended.Stopped why }
+    {
+        self.end(Ended::Stopped(why))
+    }
+
+    // What no typed program does.
+    #[inline(always)]
+    pub(super) fn untyped(&mut self) -> Step
+        ensures left { (t : TablesShape) (k : Knot) (s : State) → left_after t k result self.new s ≡ Stops (Stop.Fault Fault.NoResult) s }
+        ensures ended { result ≡ Step.Ended }
+        ensures why { self.new.ended ≡ Ended.Stopped (Stop.Fault Fault.NoResult) }
+    {
+        self.stop(Stop::Fault(Fault::NoResult))
+    }
 }

@@ -7,7 +7,6 @@ ghost use Rattle.c_machine.specs.Forms.{test_in, step_in, found_node};
 ghost use Rattle.c_machine.specs.Todo.{loop_of, again_flow, next_flow, behind_body, body_turn, tested_flow, Leaves, LeavesIn, UsesIn, Tied, OnMore, open_scopes, all_weights, machine_size};
 
 use super::Machine;
-use super::leaving::untyped;
 use crate::parts::{Purpose, Step, Use, Waiting};
 use c_base::place::NoMemory;
 use c_compute::operators::is_true;
@@ -36,7 +35,7 @@ impl<'p> Machine<'p> {
         ensures same { OnOk result (Same world.old world.new) }
     {
         match test_of(placed.stmt) {
-            None => Ok(untyped()),
+            None => Ok(self.untyped()),
             Some(None) => {
                 let step = self.turn_body(placed)?;
                 Ok(step)
@@ -67,7 +66,7 @@ impl<'p> Machine<'p> {
         match direct(world.tables(), world, test) {
             None => Ok(self.work_at(test, Use::Stmt(Purpose::Test, placed))),
             Some(Answer::NoMemory) => Err(NoMemory),
-            Some(Answer::Stopped(why)) => Ok(Step::Stopped(why)),
+            Some(Answer::Stopped(why)) => Ok(self.stop(why)),
             Some(Answer::Value(value)) => {
                 let step = self.turn_if(placed, is_true(value))?;
                 Ok(step)
@@ -94,7 +93,7 @@ impl<'p> Machine<'p> {
         match direct(world.tables(), world, node) {
             None => Ok(self.work_at(node, Use::Stmt(Purpose::Again, placed))),
             Some(Answer::NoMemory) => Err(NoMemory),
-            Some(Answer::Stopped(why)) => Ok(Step::Stopped(why)),
+            Some(Answer::Stopped(why)) => Ok(self.stop(why)),
             Some(Answer::Value(_)) => {
                 let step = self.again(plan, world, placed)?;
                 Ok(step)
@@ -110,7 +109,7 @@ impl<'p> Machine<'p> {
         ensures size { IfOk result (λ a. OnMore a (machine_size self.new ≤ 1 + all_weights self.old.waiting.items)) }
     {
         match placed.first() {
-            None => Ok(untyped()),
+            None => Ok(self.untyped()),
             Some(body) => {
                 self.wait(Waiting::Loop(placed))?;
                 Ok(self.open_at(body))

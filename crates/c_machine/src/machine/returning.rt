@@ -14,7 +14,6 @@ ghost use Rattle.c_eval.specs.Rest.{weights};
 ghost use Rattle.c_machine.specs.Todo.{gave, resumed, behind, knot_of, left_after, Tied, OnMore, open_scopes, all_weights, machine_size};
 
 use super::Machine;
-use super::leaving::untyped;
 use crate::parts::{Active, Step, Use};
 use c_compute::operators::converted;
 use c_eval::frame::Frame;
@@ -45,7 +44,7 @@ impl<'p> Machine<'p> {
         ensures same { Same world.old world.new }
     {
         match result_of(world.tables(), function, flow) {
-            None => untyped(),
+            None => self.untyped(),
             Some(value) => {
                 world.leave();
                 let done = mem::replace(&mut self.work.stack, frames);
@@ -67,10 +66,10 @@ impl<'p> Machine<'p> {
         ensures same { Same world.old world.new }
     {
         match result_of(world.tables(), self.function, flow) {
-            None => untyped(),
+            None => self.untyped(),
             Some(value) => {
                 world.leave();
-                Step::Done(value)
+                self.done(value)
             }
         }
     }

@@ -11,7 +11,6 @@ ghost use Rattle.c_eval.specs.Rest.{rest_after, size_after, Lower};
 ghost use Rattle.c_machine.specs.Todo.{scopes_with, stmt_flow, use_flow, uses, waits, behind, knot_of, left_in, left_after, LeavesIn, Tied, OnMore, open_scopes, weight, all_weights, machine_size};
 
 use super::Machine;
-use super::leaving::untyped;
 use crate::initial::write_initial;
 use crate::parts::{Active, Purpose, Step, Use, Waiting};
 use c_base::place::NoMemory;
@@ -78,7 +77,7 @@ impl<'p> Machine<'p> {
                 let step = self.call(plan, world, function, args)?;
                 Ok(step)
             }
-            Advance::Stopped(why) => Ok(Step::Stopped(why)),
+            Advance::Stopped(why) => Ok(self.stop(why)),
         }
     }
 
@@ -100,7 +99,7 @@ impl<'p> Machine<'p> {
         match self.used {
             Use::Discard => Ok(self.leave(Flow::Next)),
             Use::Return => match value {
-                None => Ok(untyped()),
+                None => Ok(self.untyped()),
                 Some(value) => Ok(self.leave(Flow::Return(Some(value)))),
             },
             Use::Stmt(purpose, placed) => {
@@ -108,10 +107,10 @@ impl<'p> Machine<'p> {
                 Ok(step)
             }
             Use::Init(instance, variable, name) => match value {
-                None => Ok(untyped()),
+                None => Ok(self.untyped()),
                 Some(value) => match write_initial(world, instance, variable, name, value)? {
                     None => Ok(self.leave(Flow::Next)),
-                    Some(why) => Ok(Step::Stopped(why)),
+                    Some(why) => Ok(self.stop(why)),
                 },
             },
         }
@@ -140,18 +139,18 @@ impl<'p> Machine<'p> {
                 Ok(step)
             }
             Purpose::Choose => match value {
-                None => Ok(untyped()),
+                None => Ok(self.untyped()),
                 Some(value) => Ok(self.choose(placed, is_true(value))),
             },
             Purpose::Test => match value {
-                None => Ok(untyped()),
+                None => Ok(self.untyped()),
                 Some(value) => {
                     let step = self.turn_if(placed, is_true(value))?;
                     Ok(step)
                 }
             },
             Purpose::Switch => match value {
-                None => Ok(untyped()),
+                None => Ok(self.untyped()),
                 Some(value) => {
                     let step = self.switch(placed, value)?;
                     Ok(step)

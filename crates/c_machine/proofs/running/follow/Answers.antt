@@ -1,9 +1,9 @@
 use Rattle.std.proofs.Common.{◌∙◌, ap, sym, refl, rules}
 use Rattle.std.proofs.lemmas.Result.{err_from_is_err_and}
 use Rattle.c_tables.specs.Tables.{tables_shape}
-use Rattle.c_meaning.specs.Results.{Gives, Stops}
 use Rattle.c_world.specs.World.{state_of}
 use Rattle.c_eval.proofs.Advanced.{grown_later, front_pending}
+use Rattle.c_machine.specs.Run.{ended_as}
 use Rattle.c_machine.specs.Todo.{left_after, left_in, knot_of}
 use Rattle.c_machine.proofs.Runs.{same_grown}
 use Rattle.c_machine.proofs.Grown.{machine_grown, machine_after}
@@ -40,20 +40,11 @@ loop-step-preserved g c =
       search rules,
     )
 
-pub returns-in-Done-clause-done : goal.returns-in-Done-clause-done
-returns-in-Done-clause-done g c = λ m.
+pub returns-in-Ended-clause-done : goal.returns-in-Ended-clause-done
+returns-in-Ended-clause-done g c = λ m.
     let P = c.args.plan.now.program.now in
     let t = tables_shape P.tables in
     let k = knot_of P in
     let w = c.loop-step.invariant.0 m in
     let v = c.in_ok-tell.ensures.told w.0 in
-    (v.0, (λ h at. v.1 h (w.1 h at)), sym w.2 ∙ sym (c.in_ok-step.ensures.left w.0) ∙ ap (λ a. left_after t k a c.step.new.self (state_of c.step.new.world w.0)) c.in-Done.is ∙ ap (λ s. Gives c.in-Done.value s) (sym v.2))
-
-pub returns-in-Stopped-clause-done : goal.returns-in-Stopped-clause-done
-returns-in-Stopped-clause-done g c = λ m.
-    let P = c.args.plan.now.program.now in
-    let t = tables_shape P.tables in
-    let k = knot_of P in
-    let w = c.loop-step.invariant.0 m in
-    let v = c.in_ok-tell.ensures.told w.0 in
-    (v.0, (λ h at. v.1 h (w.1 h at)), sym w.2 ∙ sym (c.in_ok-step.ensures.left w.0) ∙ ap (λ a. left_after t k a c.step.new.self (state_of c.step.new.world w.0)) c.in-Stopped.is ∙ ap (λ s. Stops c.in-Stopped.why s) (sym v.2))
+    (v.0, (λ h at. v.1 h (w.1 h at)), sym w.2 ∙ sym (c.in_ok-step.ensures.left w.0) ∙ ap (λ a. left_after t k a c.step.new.self (state_of c.step.new.world w.0)) c.in-Ended.is ∙ ap (λ s. ended_as c.step.new.self.ended s) (sym v.2))

@@ -5,8 +5,8 @@ use Rattle.c_meaning.specs.State.{State}
 use Rattle.c_meaning.specs.Results.{Got}
 use Rattle.c_meaning.specs.Statements.{marks_log}
 use Rattle.c_world.specs.World.{state_of}
-use Rattle.c_machine.specs.Kept.{Kept}
-use Rattle.c_machine.proofs.marks.log_each.Given as goal
+use Rattle.c_machine_direct.specs.Kept.{Kept}
+use Rattle.c_machine_direct.proofs.marks.log_each.Given as goal
 
 abbrev pub invariant-loop-mark : goal.invariant-loop-mark
 invariant-loop-mark l = record {

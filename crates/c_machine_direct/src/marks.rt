@@ -6,8 +6,8 @@ ghost use Rattle.c_meaning.specs.State.{State};
 ghost use Rattle.c_meaning.specs.Results.{Got};
 ghost use Rattle.c_meaning.specs.Statements.{marks_log};
 ghost use Rattle.c_world.specs.World.{state_of, Same};
-ghost use Rattle.c_machine.specs.Todo.{told};
-ghost use Rattle.c_machine.specs.Kept.{Kept};
+ghost use Rattle.c_eval_once.specs.Forms.{told};
+ghost use Rattle.c_machine_direct.specs.Kept.{Kept};
 
 use c_base::place::NoMemory;
 use c_constants::probes::probe_number;

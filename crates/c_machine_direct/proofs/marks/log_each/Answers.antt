@@ -1,8 +1,8 @@
 use Rattle.std.proofs.Common.{[], ap, ◌∙◌}
 use Rattle.c_meaning.specs.State.{State}
 use Rattle.c_world.specs.World.{state_of}
-use Rattle.c_machine.proofs.Logged.{one_logged}
-use Rattle.c_machine.proofs.marks.log_each.Goals as goal
+use Rattle.c_machine_direct.proofs.Logged.{one_logged}
+use Rattle.c_machine_direct.proofs.marks.log_each.Goals as goal
 
 pub loop-mark-preserved : goal.loop-mark-preserved
 loop-mark-preserved c =

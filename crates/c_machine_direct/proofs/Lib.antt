@@ -1,0 +1,4 @@
+pub mod Logged
+pub mod Lists
+pub mod Sizes
+pub mod Done
