@@ -1,12 +1,10 @@
 -- Declarators, one behind the other.
-use Rattle.std.proofs.Common.{◌≡◌, ℕ, suc, ◌+◌, ◌<◌, refl, sym, ap, ◌∙◌, arith, add_assoc, false}
+use Rattle.std.proofs.Common.{◌≡◌, ℕ, suc, ◌+◌, refl, sym, ap, ◌∙◌, arith, add_assoc, false}
 use Rattle.c_base.specs.declared.place.Pos.{Pos}
 use Rattle.c_syntax.specs.Shape.{NodeShape, decl, DeclShapes, no_decls, more_decls, DeclaratorShape, DeclaratorShapes, no_declarators, more_declarators, ItemShapes, braces}
 use Rattle.c_tables.specs.Tables.{TablesShape}
-use Rattle.c_meaning.specs.declared.end.Flow.TheVariants.{Next}
-use Rattle.c_meaning.specs.declared.end.Stop.{Stop}
 use Rattle.c_meaning.specs.State.{State}
-use Rattle.c_meaning.specs.Results.{Gives, Stops, then_do}
+use Rattle.c_meaning.specs.Results.{then_do}
 use Rattle.c_meaning.specs.Firsts.{quiet}
 use Rattle.c_meaning.specs.Counts.{variables_of, variables_among, decls_variables}
 use Rattle.c_meaning.specs.Knot.{Knot}

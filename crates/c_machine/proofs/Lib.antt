@@ -1,6 +1,7 @@
 pub mod Stacks
 pub mod Moves
 pub mod Loops
+pub mod Turning
 pub mod Lists
 pub mod Declared
 pub mod Begun

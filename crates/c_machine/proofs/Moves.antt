@@ -60,6 +60,14 @@ active_counts (c ∷ cs) h = tt
 pub is_active : (cs : List Call) (ws : List Waiting) → scope_counts cs ≡ open_scopes ws → IsActive cs
 is_active cs ws e = active_counts cs (subst Some_of (sym e) (some_open ws))
 
+scoped_counts : (cs : List Call) → Some_of (scope_counts cs) → 1 ≤ length (scopes_in cs)
+scoped_counts [] h = absurd h
+scoped_counts (c ∷ cs) h = h.0
+
+-- and has a scope
+pub is_scoped : (cs : List Call) (ws : List Waiting) → scope_counts cs ≡ open_scopes ws → 1 ≤ length (scopes_in cs)
+is_scoped cs ws e = scoped_counts cs (subst Some_of (sym e) (some_open ws))
+
 -- another scope is open below that one
 two_counts : (cs : List Call) (ns : List ℕ) → scope_counts cs ≡ one_more ns → Some_of ns → 2 ≤ length (scopes_in cs)
 two_counts cs [] e h = absurd h

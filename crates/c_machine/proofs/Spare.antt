@@ -1,5 +1,5 @@
 -- A list that is kept for the next call changes nothing of what is still to do.
-use Rattle.std.proofs.Common.{◌≡◌, refl, Option, Vec, Global}
+use Rattle.std.proofs.Common.{◌≡◌, refl, Vec, Global}
 use Rattle.c_store.specs.declared.value.Value.{Value}
 use Rattle.c_tables.specs.Tables.{TablesShape}
 use Rattle.c_meaning.specs.State.{State}

@@ -11,8 +11,8 @@ mod returning;
 mod stepping;
 mod turning;
 
-use crate::running::Ended;
 use crate::parts::{Active, Use, Waiting};
+use crate::running::Ended;
 use c_eval::frame::Frame;
 use c_eval::work::Work;
 use c_meaning::end::Stop;

@@ -4,7 +4,7 @@ ghost use Rattle.std.specs.Prelude.{◌≡◌, true};
 ghost use Rattle.c_machine_direct.specs.Forms.{is_direct_loop};
 
 use c_eval::frame::Frame;
-use c_meaning::end::Flow;
+use c_meaning::end::{Flow, Stop};
 use c_plan::block::Block;
 use c_plan::placed::Placed;
 use c_plan::sequence::Sequence;

@@ -7,16 +7,16 @@ ghost use Rattle.c_meaning.specs.Firsts.{quiet};
 ghost use Rattle.c_meaning.specs.Results.{turn, then_do};
 ghost use Rattle.c_meaning.specs.Statements.{scoped, flow, form_flow};
 ghost use Rattle.c_plan.specs.Parts.{names_ahead};
-ghost use Rattle.c_machine.specs.Todo.{again_flow, loop_of, block_flow, LeavesIn, UsesIn, Tied, OnMore, open_scopes, all_weights, machine_size};
+ghost use Rattle.c_machine.specs.Todo.{again_flow, body_turn, loop_of, block_flow, LeavesIn, UsesIn, Tied, OnMore, open_scopes, all_weights, machine_size};
 ghost use Rattle.c_world.specs.World.{Same};
 
 use super::Machine;
-use c_machine_direct::marks::log_marks;
-use crate::parts::{Purpose, Step, Use, Waiting};
+use crate::parts::{Purpose, Step, Turning, Use, Waiting};
 use c_base::place::NoMemory;
 use c_compute::operators::is_true;
 use c_eval_direct::direct::direct;
 use c_eval_once::reply::Answer;
+use c_machine_direct::marks::log_marks;
 use c_meaning::end::{Flow, Stop};
 use c_plan::block::Block;
 use c_plan::placed::Placed;
@@ -98,11 +98,11 @@ impl<'p> Machine<'p> {
                 Ok(step)
             }
             StmtForm::While(_, _) => {
-                let step = self.again(plan, world, placed)?;
+                let step = self.begin_loop(plan, world, placed)?;
                 Ok(step)
             }
             StmtForm::Do(_, _) => {
-                let step = self.turn_body(placed)?;
+                let step = self.begin_do(plan, world, placed)?;
                 Ok(step)
             }
             StmtForm::For(first, _, _, _) => {
@@ -209,11 +209,92 @@ impl<'p> Machine<'p> {
     {
         match first {
             None => {
-                let step = self.again(plan, world, placed)?;
+                let step = self.begin_loop(plan, world, placed)?;
                 Ok(step)
             }
             Some(node) => {
-                let step = self.then_again(plan, world, node, placed)?;
+                let step = self.then_loop(plan, world, node, placed)?;
+                Ok(step)
+            }
+        }
+    }
+
+    // The first part of a `for`, and the loop.
+    #[inline(always)]
+    fn then_loop(
+        &mut self,
+        plan: &'p Plan<'p>,
+        world: &mut World<'p>,
+        node: &'p Node,
+        placed: Placed<'p>,
+    ) -> Result<Step, NoMemory>
+        requires program { world.old.program.now ≡ plan.now.program.now }
+        requires tied { Tied self.old world.old }
+        ensures left { IfOk result (λ a. UsesIn plan.now.program.now a self.new world.new self.old world.old (node_shape node.now) (Use.Stmt Purpose.Again placed.entry)) }
+        ensures tied { IfOk result (λ a. OnMore a (Tied self.new world.new)) }
+        ensures size { IfOk result (λ a. OnMore a (12 * world.new.turns + machine_size self.new ≤ 12 * world.old.turns + 1 + all_weights self.old.waiting.items)) }
+        ensures same { OnOk result (Same world.old world.new) }
+    {
+        match direct(world.tables(), world, node) {
+            None => Ok(self.work_at(node, Use::Stmt(Purpose::Again, placed))),
+            Some(Answer::NoMemory) => Err(NoMemory),
+            Some(Answer::Stopped(why)) => Ok(self.stop(why)),
+            Some(Answer::Value(_)) => {
+                let step = self.begin_loop(plan, world, placed)?;
+                Ok(step)
+            }
+        }
+    }
+
+    // A loop from its test on, its turns at once where they can be.
+    #[inline(always)]
+    fn begin_loop(
+        &mut self,
+        plan: &'p Plan<'p>,
+        world: &mut World<'p>,
+        placed: Placed<'p>,
+    ) -> Result<Step, NoMemory>
+        requires program { world.old.program.now ≡ plan.now.program.now }
+        requires tied { Tied self.old world.old }
+        ensures left { IfOk result (λ a. LeavesIn plan.now.program.now a self.new world.new self.old world.old (λ t k. again_flow t k (loop_of t (form_shape placed.entry.stmt.now.form) placed.entry.before))) }
+        ensures tied { IfOk result (λ a. OnMore a (Tied self.new world.new)) }
+        ensures size { IfOk result (λ a. OnMore a (12 * world.new.turns + machine_size self.new ≤ 12 * world.old.turns + 1 + all_weights self.old.waiting.items)) }
+        ensures same { OnOk result (Same world.old world.new) }
+    {
+        match Turning::of(placed) {
+            None => {
+                let step = self.again(plan, world, placed)?;
+                Ok(step)
+            }
+            Some(turning) => {
+                let step = self.again_at_once(plan, world, turning)?;
+                Ok(step)
+            }
+        }
+    }
+
+    // A `do` (C89, 3.6.5.2), which begins with its body.
+    #[inline(always)]
+    fn begin_do(
+        &mut self,
+        plan: &'p Plan<'p>,
+        world: &mut World<'p>,
+        placed: Placed<'p>,
+    ) -> Result<Step, NoMemory>
+        requires program { world.old.program.now ≡ plan.now.program.now }
+        requires tied { Tied self.old world.old }
+        ensures left { IfOk result (λ a. LeavesIn plan.now.program.now a self.new world.new self.old world.old (λ t k. body_turn t k (form_shape placed.entry.stmt.now.form) placed.entry.before)) }
+        ensures tied { IfOk result (λ a. OnMore a (Tied self.new world.new)) }
+        ensures size { IfOk result (λ a. OnMore a (12 * world.new.turns + machine_size self.new ≤ 12 * world.old.turns + 1 + all_weights self.old.waiting.items)) }
+        ensures same { OnOk result (Same world.old world.new) }
+    {
+        match Turning::of(placed) {
+            None => {
+                let step = self.turn_body(placed)?;
+                Ok(step)
+            }
+            Some(turning) => {
+                let step = self.body_at_once(plan, world, turning)?;
                 Ok(step)
             }
         }

@@ -18,12 +18,12 @@ ghost use Rattle.c_eval.specs.Rest.{weights};
 ghost use Rattle.c_machine.specs.Todo.{entered_flow, resumed, behind, knot_of, begun_left, OnRunning, left_after, LeavesIn, Tied, OnMore, IsOn, open_scopes, all_weights, machine_size};
 
 use super::{Begun, Machine};
-use c_machine_direct::marks::log_marks;
-use crate::running::Ended;
 use crate::parts::{Active, Step, Use, Waiting};
+use crate::running::Ended;
 use c_base::place::NoMemory;
 use c_eval::frame::{Focus, Frame};
 use c_eval::work::Work;
+use c_machine_direct::marks::log_marks;
 use c_meaning::end::Stop;
 use c_plan::plan::Plan;
 use c_plan::routines::Routine;

@@ -96,6 +96,7 @@ impl<'p> Machine<'p> {
     #[inline(always)]
     pub(super) fn stop(&mut self, why: Stop) -> Step
         ensures left { (t : TablesShape) (k : Knot) (s : State) → left_after t k result self.new s ≡ Stops why s }
+        ensures scopes { open_scopes self.new.waiting.items ≡ open_scopes self.old.waiting.items }
         ensures ended { result ≡ Step.Ended }
         ensures why { self.new.ended ≡ Ended.Stopped why }
     {
@@ -106,6 +107,7 @@ impl<'p> Machine<'p> {
     #[inline(always)]
     pub(super) fn untyped(&mut self) -> Step
         ensures left { (t : TablesShape) (k : Knot) (s : State) → left_after t k result self.new s ≡ Stops (Stop.Fault Fault.NoResult) s }
+        ensures scopes { open_scopes self.new.waiting.items ≡ open_scopes self.old.waiting.items }
         ensures ended { result ≡ Step.Ended }
         ensures why { self.new.ended ≡ Ended.Stopped (Stop.Fault Fault.NoResult) }
     {

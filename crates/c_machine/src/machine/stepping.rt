@@ -43,6 +43,10 @@ impl<'p> Machine<'p> {
                 let step = self.pass(plan, world, flow)?;
                 Ok(step)
             }
+            Active::Turn(turning) => {
+                let step = self.next_at_once(plan, world, turning)?;
+                Ok(step)
+            }
             Active::Busy => {
                 let advance = self.work.step(world.tables(), world)?;
                 let step = self.busy(plan, world, advance)?;
