@@ -247,7 +247,7 @@ impl<'p> Machine<'p> {
     }
 
     // A loop from its test on, its turns at once where they can be.
-    #[inline(always)]
+    #[inline(never)]
     fn begin_loop(
         &mut self,
         plan: &'p Plan<'p>,
@@ -274,7 +274,7 @@ impl<'p> Machine<'p> {
     }
 
     // A `do` (C89, 3.6.5.2), which begins with its body.
-    #[inline(always)]
+    #[inline(never)]
     fn begin_do(
         &mut self,
         plan: &'p Plan<'p>,

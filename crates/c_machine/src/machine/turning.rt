@@ -36,7 +36,7 @@ impl<'p> Turning<'p> {
 
 impl<'p> Machine<'p> {
     // Behind the body: the step of a `for`, and the next turn.
-    #[inline(always)]
+    #[inline(never)]
     pub(super) fn next_at_once(
         &mut self,
         plan: &'p Plan<'p>,
