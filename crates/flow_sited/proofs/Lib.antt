@@ -1,0 +1,11 @@
+pub mod Grown
+pub mod Outcomes
+pub mod Standing
+pub mod Numbers
+pub mod Walks
+pub mod Leaves
+pub mod Whole
+pub mod Told
+pub mod Named
+pub mod Before
+pub mod Tested

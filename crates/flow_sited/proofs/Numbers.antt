@@ -1,0 +1,107 @@
+-- Items by their numbers, in the lists of sites and by what they are.
+use Rattle.std.proofs.Common.{◌≡◌, ℕ, zero, suc, ◌+◌, ◌-◌, ◌≤◌, ◌<◌, ◌++◌, List, [], ◌∷◌, Option, Some, None, refl, ap, sym, subst, ◌∙◌, arith}
+use Rattle.std.specs.Prelude.{slice_get, Contains}
+use Rattle.c_base.specs.declared.place.Pos.{Pos}
+use Rattle.c_tables.specs.Tables.{StructShape}
+use Rattle.c_walk.specs.Items.{Direct, Outcomes, labels, Item, block, decision, def, used}
+use Rattle.c_walk.specs.Counted.{def_count, use_count}
+use Rattle.c_walk.specs.Sound.{decision_count}
+use Rattle.c_sites.specs.Names.{LeafName}
+use Rattle.c_sites.specs.Kinds.{Decision, decisions, DefSite, def_site, defs, UseSite, use_site, uses}
+use Rattle.flow_locals.specs.Locals.{def_at, use_at}
+
+none_some : (x : Direct) → None ≡ Some x → ⊥
+none_some x e = cc
+
+none_site : (s : DefSite) → None ≡ Some s → ⊥
+none_site s e = cc
+
+some_site : (x y : DefSite) → Some x ≡ Some y → x ≡ y
+some_site x y e = cc
+
+-- ---- the n-th of a kind, and the items before it
+
+pub record DefAt (is : List Item) (n : ℕ) (o : Option Direct) : Type 0 where
+  pub pre : List Item
+  pub place : Pos
+  pub function : ℕ
+  pub rest : List Item
+  pub cut : is ≡ pre ++ def place function o ∷ rest
+  pub number : n ≡ suc (def_count pre)
+
+pub record UseAt (is : List Item) (n : ℕ) (o : Option Direct) : Type 0 where
+  pub pre : List Item
+  pub place : Pos
+  pub function : ℕ
+  pub owner : Option ℕ
+  pub rest : List Item
+  pub cut : is ≡ pre ++ used place function o owner ∷ rest
+  pub number : n ≡ suc (use_count pre)
+
+pub def_there : (xs : List Item) (p : Pos) (f : ℕ) (d : Option Direct) (rest : List Item) → def_at (suc (def_count xs)) (xs ++ def p f d ∷ rest) ≡ d
+def_there [] p f d rest = refl
+def_there (block q ∷ xs) p f d rest = def_there xs p f d rest
+def_there (decision q o ∷ xs) p f d rest = def_there xs p f d rest
+def_there (used q g c k ∷ xs) p f d rest = def_there xs p f d rest
+def_there (def q g c ∷ xs) p f d rest = def_there xs p f d rest
+
+pub def_split : (n : ℕ) (is : List Item) (x : Direct) → def_at n is ≡ Some x → DefAt is n (Some x)
+def_split n [] x e = absurd (none_some x e)
+def_split n (block p ∷ is) x e = let a = def_split n is x e in record { pre = block p ∷ a.pre; place = a.place; function = a.function; rest = a.rest; cut = ap (λ l. block p ∷ l) a.cut; number = a.number }
+def_split n (decision p o ∷ is) x e = let a = def_split n is x e in record { pre = decision p o ∷ a.pre; place = a.place; function = a.function; rest = a.rest; cut = ap (λ l. decision p o ∷ l) a.cut; number = a.number }
+def_split n (used p f d k ∷ is) x e = let a = def_split n is x e in record { pre = used p f d k ∷ a.pre; place = a.place; function = a.function; rest = a.rest; cut = ap (λ l. used p f d k ∷ l) a.cut; number = a.number }
+def_split zero (def p f d ∷ is) x e = absurd (none_some x e)
+def_split (suc zero) (def p f d ∷ is) x e = record { pre = []; place = p; function = f; rest = is; cut = ap (λ z. def p f z ∷ is) e; number = refl }
+def_split (suc (suc n)) (def p f d ∷ is) x e = let a = def_split (suc n) is x e in record { pre = def p f d ∷ a.pre; place = a.place; function = a.function; rest = a.rest; cut = ap (λ l. def p f d ∷ l) a.cut; number = ap suc a.number }
+
+pub use_split : (n : ℕ) (is : List Item) (x : Direct) → use_at n is ≡ Some x → UseAt is n (Some x)
+use_split n [] x e = absurd (none_some x e)
+use_split n (block p ∷ is) x e = let a = use_split n is x e in record { pre = block p ∷ a.pre; place = a.place; function = a.function; owner = a.owner; rest = a.rest; cut = ap (λ l. block p ∷ l) a.cut; number = a.number }
+use_split n (decision p o ∷ is) x e = let a = use_split n is x e in record { pre = decision p o ∷ a.pre; place = a.place; function = a.function; owner = a.owner; rest = a.rest; cut = ap (λ l. decision p o ∷ l) a.cut; number = a.number }
+use_split n (def p f d ∷ is) x e = let a = use_split n is x e in record { pre = def p f d ∷ a.pre; place = a.place; function = a.function; owner = a.owner; rest = a.rest; cut = ap (λ l. def p f d ∷ l) a.cut; number = a.number }
+use_split zero (used p f d k ∷ is) x e = absurd (none_some x e)
+use_split (suc zero) (used p f d k ∷ is) x e = record { pre = []; place = p; function = f; owner = k; rest = is; cut = ap (λ z. used p f z k ∷ is) e; number = refl }
+use_split (suc (suc n)) (used p f d k ∷ is) x e = let a = use_split (suc n) is x e in record { pre = used p f d k ∷ a.pre; place = a.place; function = a.function; owner = a.owner; rest = a.rest; cut = ap (λ l. used p f d k ∷ l) a.cut; number = ap suc a.number }
+
+-- ---- in the lists of sites
+
+pub decision_listed : (pre : List Item) (p : Pos) (o : Outcomes) (rest : List Item) → slice_get (decisions (pre ++ decision p o ∷ rest)) (decision_count pre) ≡ Some (record { pos = p; labels = labels o })
+decision_listed [] p o rest = refl
+decision_listed (block q ∷ pre) p o rest = decision_listed pre p o rest
+decision_listed (decision q w ∷ pre) p o rest = decision_listed pre p o rest
+decision_listed (def q g c ∷ pre) p o rest = decision_listed pre p o rest
+decision_listed (used q g c j ∷ pre) p o rest = decision_listed pre p o rest
+
+module _ (ns : List LeafName) (rows : List StructShape) where
+  pub def_listed : (pre : List Item) (p : Pos) (f : ℕ) (o : Option Direct) (rest : List Item) → slice_get (defs ns rows (pre ++ def p f o ∷ rest)) (def_count pre) ≡ Some (def_site ns rows p f o)
+  def_listed [] p f o rest = refl
+  def_listed (block q ∷ pre) p f o rest = def_listed pre p f o rest
+  def_listed (decision q w ∷ pre) p f o rest = def_listed pre p f o rest
+  def_listed (def q g c ∷ pre) p f o rest = def_listed pre p f o rest
+  def_listed (used q g c j ∷ pre) p f o rest = def_listed pre p f o rest
+
+  pub use_listed : (pre : List Item) (p : Pos) (f : ℕ) (o : Option Direct) (k : Option ℕ) (rest : List Item) → slice_get (uses ns rows (pre ++ used p f o k ∷ rest)) (use_count pre) ≡ Some (use_site ns rows p f o k)
+  use_listed [] p f o k rest = refl
+  use_listed (block q ∷ pre) p f o k rest = use_listed pre p f o k rest
+  use_listed (decision q w ∷ pre) p f o k rest = use_listed pre p f o k rest
+  use_listed (def q g c ∷ pre) p f o k rest = use_listed pre p f o k rest
+  use_listed (used q g c j ∷ pre) p f o k rest = use_listed pre p f o k rest
+
+  -- a definition of the list is one of an item
+  pub record Site (is : List Item) (k : ℕ) (s : DefSite) : Type 0 where
+    pub direct : Option Direct
+    pub pre : List Item
+    pub place : Pos
+    pub function : ℕ
+    pub rest : List Item
+    pub cut : is ≡ pre ++ def place function direct ∷ rest
+    pub number : k ≡ def_count pre
+    pub site : s ≡ def_site ns rows place function direct
+
+  pub site_back : (is : List Item) (k : ℕ) (s : DefSite) → slice_get (defs ns rows is) k ≡ Some s → Site is k s
+  site_back [] k s e = absurd (none_site s e)
+  site_back (block p ∷ is) k s e = let a = site_back is k s e in record { direct = a.direct; pre = block p ∷ a.pre; place = a.place; function = a.function; rest = a.rest; cut = ap (λ l. block p ∷ l) a.cut; number = a.number; site = a.site }
+  site_back (decision p o ∷ is) k s e = let a = site_back is k s e in record { direct = a.direct; pre = decision p o ∷ a.pre; place = a.place; function = a.function; rest = a.rest; cut = ap (λ l. decision p o ∷ l) a.cut; number = a.number; site = a.site }
+  site_back (used p f d j ∷ is) k s e = let a = site_back is k s e in record { direct = a.direct; pre = used p f d j ∷ a.pre; place = a.place; function = a.function; rest = a.rest; cut = ap (λ l. used p f d j ∷ l) a.cut; number = a.number; site = a.site }
+  site_back (def p f d ∷ is) zero s e = record { direct = d; pre = []; place = p; function = f; rest = is; cut = refl; number = refl; site = sym (some_site (def_site ns rows p f d) s e) }
+  site_back (def p f d ∷ is) (suc k) s e = let a = site_back is k s e in record { direct = a.direct; pre = def p f d ∷ a.pre; place = a.place; function = a.function; rest = a.rest; cut = ap (λ l. def p f d ∷ l) a.cut; number = ap suc a.number; site = a.site }
