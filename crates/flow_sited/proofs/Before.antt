@@ -1,7 +1,7 @@
 -- Before main is called no test is told, and then all is done by calls: so each test of a run is told by a call.
-use Rattle.std.proofs.Common.{ℕ, suc, ◌≤◌, ◌<◌, ◌⊎◌, inl, inr, List, [], ◌∷◌, ◌++◌, ◌≡◌, refl, ap, sym, subst, ◌∙◌, arith, Option, Some, None, Result, Ok, Err, true, false}
+use Rattle.std.proofs.Common.{ℕ, ◌≤◌, ◌⊎◌, inl, inr, List, [], ◌∷◌, subst, arith, Option, Some, None, Result, Ok, Err, true, false}
 use Rattle.std.specs.Prelude.{All, replicate}
-use Rattle.std.proofs.lemmas.List.Elements.{All-nil, All-cons, All-append, All-weaker, All-head, All-tail}
+use Rattle.std.proofs.lemmas.List.Elements.{All-nil, All-cons, All-append, All-weaker}
 use Rattle.c_events.specs.declared.events.Cell.{Cell}
 use Rattle.c_events.specs.declared.events.Event.{Event}
 use Rattle.c_events.specs.declared.events.Event.TheVariants as event
@@ -15,9 +15,7 @@ use Rattle.c_store.specs.declared.value.Fault.{Fault}
 use Rattle.c_store.specs.declared.value.MakeErr.{MakeErr}
 use Rattle.c_store.specs.Cells.{Cells, write_of, made, literal_cells}
 use Rattle.c_tables.specs.Tables.{TablesShape}
-use Rattle.c_meaning.specs.declared.end.End.{End}
-use Rattle.c_meaning.specs.declared.end.Flow.{Flow}
-use Rattle.c_meaning.specs.State.{Act, begins, makes, tells, repeats, Deed, State, start, activation, did}
+use Rattle.c_meaning.specs.State.{Act, tells, repeats, Deed, State, start, activation, did}
 use Rattle.c_meaning.specs.Results.{Got, Gives, Stops, then_do, settled, present}
 use Rattle.c_meaning.specs.Layout.{cells, variable_kind}
 use Rattle.c_meaning.specs.Firsts.{First, quiet, heard, noted_def}

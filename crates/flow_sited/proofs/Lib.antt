@@ -1,5 +1,6 @@
 pub mod Grown
 pub mod Outcomes
+pub mod Counted
 pub mod Standing
 pub mod Numbers
 pub mod Walks

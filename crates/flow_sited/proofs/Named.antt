@@ -1,22 +1,21 @@
 -- The leaf names of scalar local variables' sites: each has its variable's own name alone, and no other definition of the variable has that.
-use Rattle.std.proofs.Common.{◌≡◌, ◌⊎◌, ℕ, zero, suc, ◌+◌, ◌-◌, ◌≤◌, ◌<◌, ◌++◌, List, [], ◌∷◌, map, Option, Some, None, Bool, true, false, inl, inr, refl, ap, sym, subst, ◌∙◌, arith, append-nil}
+use Rattle.std.proofs.Common.{◌≡◌, ℕ, suc, ◌-◌, ◌≤◌, ◌++◌, List, [], ◌∷◌, map, Option, Some, None, Bool, true, false, inl, inr, refl, ap, sym, subst, ◌∙◌, arith, append-nil}
 use Rattle.std.specs.Prelude.{not, ◌&&◌, slice_get, Contains, option_map, if◌then◌else◌}
 use Rattle.std.specs.List.{AllByRecursion}
 use Rattle.std.proofs.lemmas.Bool.{true≢false, and_parts}
 use Rattle.std.proofs.lemmas.List.Elements.{Contains-append_left, Contains-append_right}
-use Rattle.c_base.specs.declared.place.Pos.{Pos}
 use Rattle.c_syntax.specs.declared.text.Text.{Text}
 use Rattle.c_type_rules.specs.Kinds.{is_scalar}
 use Rattle.c_tables.specs.Tables.{StructShape, VariableShape}
 use Rattle.c_tables.specs.Rows.{row}
-use Rattle.c_walk.specs.Items.{Direct, Item, block, decision, def, used}
+use Rattle.c_walk.specs.Items.{Direct, Item, def, used}
 use Rattle.c_walk.specs.Counted.{def_count, use_count}
-use Rattle.c_walk.specs.Stating.{whole_of, whole}
+use Rattle.c_walk.specs.Stating.{whole_of}
 use Rattle.c_walk.specs.Units as units
 use Rattle.c_sites.specs.Names as names
 use Rattle.c_sites.specs.Names.{LeafName, leaf_name, site_leaves, item_names}
 use Rattle.c_sites.specs.Numbers.{number_of, site_numbers}
-use Rattle.c_sites.specs.Kinds.{DefSite, def_site, defs, UseSite, use_site, uses, variable_of}
+use Rattle.c_sites.specs.Kinds.{DefSite, def_site, defs, use_site, uses, variable_of}
 use Rattle.c_sites.proofs.Apart.{are_apart}
 use Rattle.c_meaning.specs.Layout.{kind_in, variable_kind}
 use Rattle.c_meaning.specs.Calls.{Source}
@@ -24,9 +23,9 @@ use Rattle.flow_walks.proofs.Appended.{defs_both}
 use Rattle.flow_misses.specs.Placing.{Local}
 use Rattle.flow_locals.specs.Locals.{def_at, use_at, is_among, is_plain, has_scalar_kind, is_local, name_in, name_at, site_of, local_of, locals_of}
 use Rattle.flow_sited.specs.Sites.{all_items, all_names, all_sites, IsNamedItem, AreNamed, own_number, HasOwnName, IsLocalUse, LocalDefinitionsAreNamed, LocalUsesAreNamed, OwnNamesAreTold}
-use Rattle.flow_sited.proofs.Numbers.{DefAt, def_there, def_split, UseAt, use_split, def_listed, use_listed, site_back}
-use Rattle.flow_sited.proofs.Leaves.{none_there, one_there, mapped, map_there, plain_site, scalar_site}
-use Rattle.flow_sited.proofs.Whole.{IsWhole, whole_variable}
+use Rattle.flow_sited.proofs.Numbers.{def_there, def_split, use_split, def_listed, use_listed, site_back}
+use Rattle.flow_sited.proofs.Leaves.{mapped, plain_site, scalar_site}
+use Rattle.flow_sited.proofs.Whole.{whole_variable}
 use Rattle.flow_sited.proofs.Told.{outside, found, some_number, told}
 
 not_true : (b : Bool) → not b ≡ true → b ≡ false
@@ -135,9 +134,12 @@ module _ (P : Source) where
       at : use_at u all ≡ Some direct
       local : is_local P.tables (outside P) direct ≡ true
       variable : r.variable ≡ direct.variable
+      names : r.names ≡ name_at P.tables direct.variable 0 ∷ []
 
     read_if : (u : ℕ) (r : Local) (d : Direct) (b : Bool) → is_local P.tables (outside P) d ≡ b → use_at u all ≡ Some d → (if b then Some (site_of P.tables false d.variable) else None) ≡ Some r → Read u r
-    read_if u r d true i at e = record { direct = d; at = at; local = i; variable = sym (ap (λ (l : Local). l.variable) (some_local (site_of P.tables false d.variable) r e)) }
+    read_if u r d true i at e =
+        let s = some_local (site_of P.tables false d.variable) r e in
+        record { direct = d; at = at; local = i; variable = sym (ap (λ (l : Local). l.variable) s); names = sym (ap (λ (l : Local). l.names) s) }
     read_if u r d false i at e = absurd (no_local r e)
 
     read : (u : ℕ) (r : Local) (o : Option Direct) → use_at u all ≡ o → local_of P.tables (outside P) o ≡ Some r → Read u r
@@ -162,6 +164,7 @@ module _ (P : Source) where
           site = site;
           at = (omega (arith, n), ap (slice_get (uses ns rows all)) k ∙ ap (λ is. slice_get (uses ns rows is) (use_count s.pre)) s.cut ∙ use_listed ns rows s.pre s.place s.function (Some c) s.owner s.rest);
           named = moved c.variable r.variable site.variable site.names (sym f.variable) (refl, own_numbers c own p.scalar);
+          names = f.names ∙ ap (λ (n : ℕ). name_at P.tables n 0 ∷ []) (sym f.variable);
           scalar = ap (λ (n : ℕ). has_scalar_kind (variable_kind P.tables n)) f.variable ∙ p.kind;
           plain = ap (λ (n : ℕ). is_plain (name_at P.tables n 0)) f.variable ∙ sym (ap is_plain own) ∙ p.plain;
         }

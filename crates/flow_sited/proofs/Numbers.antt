@@ -1,13 +1,13 @@
 -- Items by their numbers, in the lists of sites and by what they are.
-use Rattle.std.proofs.Common.{◌≡◌, ℕ, zero, suc, ◌+◌, ◌-◌, ◌≤◌, ◌<◌, ◌++◌, List, [], ◌∷◌, Option, Some, None, refl, ap, sym, subst, ◌∙◌, arith}
-use Rattle.std.specs.Prelude.{slice_get, Contains}
+use Rattle.std.proofs.Common.{◌≡◌, ℕ, zero, suc, ◌++◌, List, [], ◌∷◌, Option, Some, None, refl, ap, sym}
+use Rattle.std.specs.Prelude.{slice_get}
 use Rattle.c_base.specs.declared.place.Pos.{Pos}
 use Rattle.c_tables.specs.Tables.{StructShape}
 use Rattle.c_walk.specs.Items.{Direct, Outcomes, labels, Item, block, decision, def, used}
 use Rattle.c_walk.specs.Counted.{def_count, use_count}
 use Rattle.c_walk.specs.Sound.{decision_count}
 use Rattle.c_sites.specs.Names.{LeafName}
-use Rattle.c_sites.specs.Kinds.{Decision, decisions, DefSite, def_site, defs, UseSite, use_site, uses}
+use Rattle.c_sites.specs.Kinds.{decisions, DefSite, def_site, defs, use_site, uses}
 use Rattle.flow_locals.specs.Locals.{def_at, use_at}
 
 none_some : (x : Direct) → None ≡ Some x → ⊥

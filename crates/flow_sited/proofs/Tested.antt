@@ -1,6 +1,6 @@
 -- The outcomes that a run covers are listed of their decisions.
-use Rattle.std.proofs.Common.{ℕ, zero, suc, ◌≤◌, ◌<◌, ◌⊎◌, inl, inr, List, [], ◌∷◌, ◌++◌, ◌≡◌, refl, ap, sym, subst, ◌∙◌, arith, length, slice_get, Option, Some, None, Bool, true, false}
-use Rattle.std.specs.Prelude.{All, Contains, nat_eq, if◌then◌else◌}
+use Rattle.std.proofs.Common.{ℕ, zero, suc, ◌⊎◌, inl, inr, List, [], ◌∷◌, ◌++◌, ◌≡◌, refl, ap, sym, subst, ◌∙◌, arith, slice_get, Some, None, Bool, true, false}
+use Rattle.std.specs.Prelude.{Contains, nat_eq, if◌then◌else◌}
 use Rattle.std.proofs.lemmas.Bool.{true≢false}
 use Rattle.std.proofs.lemmas.List.Elements.{All-contains, Contains-append_right}
 use Rattle.c_events.specs.declared.events.Event.{Event}
@@ -10,21 +10,20 @@ use Rattle.c_meaning.specs.Deeds.{told, own}
 use Rattle.c_meaning.specs.Calls.{Source}
 use Rattle.c_meaning.specs.Runs.{run_heard}
 use Rattle.c_meaning.proofs.Apart.{own_append}
-use Rattle.flow_walks.specs.declared.action.Action.{Action}
 use Rattle.flow_walks.specs.declared.action.Action.TheVariants.{Test, Kill}
 use Rattle.flow_calls.specs.Orderly.{IsOrderlyProgram}
 use Rattle.flow_calls.specs.Readings.{action_of, readings}
 use Rattle.flow_calls.specs.Walking.{IsWalking}
 use Rattle.flow_calls.proofs.Laws.{each_call_walks}
-use Rattle.flow_misses.specs.Placing.{Sites, At, AreInPlace}
-use Rattle.flow_misses.proofs.Told.{deed, Cut, cut}
+use Rattle.flow_misses.specs.Placing.{At}
+use Rattle.flow_misses.proofs.Told.{deed, cut}
 use Rattle.flow_places.proofs.Laws.{runs_are_in_place}
 use Rattle.flow_locals.specs.Locals.{locals_of}
 use Rattle.flow_locals.proofs.Laws.{locals_are_sites}
 use Rattle.flow_sited.specs.Sites.{all_sites, HasOutcome, CoveredOutcomesAreListed, CoveredPUsesHaveOutcomes}
 use Rattle.flow_sited.proofs.Leaves.{none_there}
 use Rattle.flow_sited.proofs.Walks.{walks_stand}
-use Rattle.flow_sited.proofs.Before.{IsUntested, IsByCall, tests_by_calls}
+use Rattle.flow_sited.proofs.Before.{IsByCall, tests_by_calls}
 
 -- ---- in lists
 

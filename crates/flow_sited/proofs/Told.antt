@@ -1,26 +1,20 @@
 -- Which definitions are sites of scalar local variables and parameters, by their numbers.
-use Rattle.std.proofs.Common.{◌≡◌, ◌⊎◌, ℕ, zero, suc, ◌+◌, ◌≤◌, ◌<◌, ◌++◌, List, [], ◌∷◌, Option, Some, None, Bool, true, false, inl, inr, refl, ap, sym, subst, ◌∙◌, arith, append_assoc}
-use Rattle.std.specs.Prelude.{nat_eq, nat_le, not, ◌&&◌, ◌||◌, if◌then◌else◌, option_map}
+use Rattle.std.proofs.Common.{◌≡◌, ◌⊎◌, ℕ, zero, suc, ◌≤◌, ◌<◌, ◌++◌, List, [], ◌∷◌, Option, Some, None, Bool, true, false, inl, inr, refl, ap, sym, ◌∙◌, arith, append_assoc}
+use Rattle.std.specs.Prelude.{nat_eq, nat_le, ◌||◌, if◌then◌else◌}
 use Rattle.std.proofs.lemmas.Bool.{true≢false, or_parts}
 use Rattle.std.proofs.lemmas.Bool.Decides.{nat_tests}
-use Rattle.c_syntax.specs.declared.tree.Named.{Named}
-use Rattle.c_syntax.specs.declared.tree.Star.{Star}
-use Rattle.c_syntax.specs.declared.tree.ProbeMark.{ProbeMark}
-use Rattle.c_syntax.specs.Shape.{SpecShapes, MaybeInit, DeclaratorShapes, decl, declarator, DeclFormShape, CompoundShape, braces, ExternalShape, defined, declared}
-use Rattle.c_type_rules.specs.Kinds.{is_scalar}
-use Rattle.c_tables.specs.Rows.{row, text_of}
+use Rattle.c_syntax.specs.Shape.{decl, declarator, DeclFormShape, CompoundShape, braces, ExternalShape, defined, declared}
+use Rattle.c_tables.specs.Rows.{text_of}
 use Rattle.c_walk.specs.Items.{Direct, Item, block, decision, def, used}
 use Rattle.c_walk.specs.Counted.{def_count}
 use Rattle.c_walk.specs.Walked.{Walked, with_block}
 use Rattle.c_walk.specs.Units as units
 use Rattle.c_walk.specs.Units.{function_of, in_function, define_declarators, define_parameters, walk_function, walk_external, walk_externals}
-use Rattle.c_meaning.specs.Layout.{variable_kind}
 use Rattle.c_meaning.specs.Calls.{Source}
-use Rattle.flow_walks.proofs.Appended.{defs_both}
 use Rattle.flow_misses.specs.Placing.{Local}
-use Rattle.flow_locals.specs.Locals.{def_at, outer_names, outer_variables, is_among, is_plain, has_scalar_kind, is_local, name_at, site_of, local_of, parameter_of, defined_in}
+use Rattle.flow_locals.specs.Locals.{def_at, outer_names, outer_variables, is_among, is_local, name_at, site_of, local_of, parameter_of, defined_in}
 use Rattle.flow_sited.specs.Sites.{all_items}
-use Rattle.flow_sited.proofs.Grown.{Grows, grows_on, block_grows, compound_grows, external_grows, externals_grow}
+use Rattle.flow_sited.proofs.Grown.{Grows, grows_on, block_grows, compound_grows, externals_grow}
 use Rattle.flow_sited.proofs.Whole.{def_front, IsWhole, parameters_whole, names_outer}
 
 le_is : (m n : ℕ) → nat_le m n ≡ true → m ≤ n

@@ -1,11 +1,11 @@
 -- Each action of a walk stands in the walk's function, by the lists of sites.
-use Rattle.std.proofs.Common.{◌≡◌, ℕ, suc, ◌-◌, ◌≤◌, ◌++◌, List, [], ◌∷◌, Some, refl, ap, sym, subst, ◌∙◌, arith, append-nil}
+use Rattle.std.proofs.Common.{◌≡◌, ℕ, ◌-◌, [], refl, ap, sym, subst, ◌∙◌, arith, append-nil}
 use Rattle.std.specs.Prelude.{slice_get, Contains}
-use Rattle.c_walk.specs.Items.{Item, labels}
+use Rattle.c_walk.specs.Items.{labels}
 use Rattle.c_walk.specs.Counted.{def_count, use_count}
 use Rattle.c_walk.specs.Sound.{decision_count}
-use Rattle.c_walk.specs.Units.{no_items, walk_externals}
-use Rattle.c_sites.specs.Kinds.{Decision, decisions, DefSite, def_site, defs, UseSite, use_site, uses}
+use Rattle.c_walk.specs.Units.{no_items}
+use Rattle.c_sites.specs.Kinds.{decisions, def_site, defs, use_site, uses}
 use Rattle.c_meaning.specs.Calls.{Source}
 use Rattle.flow_walks.specs.declared.action.Action.{Action}
 use Rattle.flow_walks.specs.declared.action.Action.TheVariants.{Define, Use, Block, Test, Kill, Nothing}

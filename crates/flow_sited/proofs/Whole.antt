@@ -1,8 +1,6 @@
 -- What is defined at its name is a variable as a whole; outside of functions it is one of those that are declared there.
-use Rattle.std.proofs.Common.{◌≡◌, ◌⊎◌, ℕ, zero, suc, ◌+◌, ◌≤◌, ◌<◌, ◌++◌, List, [], ◌∷◌, Option, Some, None, Bool, true, false, inl, inr, refl, ap, sym, subst, ◌∙◌, arith}
-use Rattle.std.specs.Prelude.{nat_eq, nat_le, ◌||◌, option_map}
-use Rattle.std.proofs.lemmas.Bool.{true≢false}
-use Rattle.c_base.specs.declared.place.Pos.{Pos}
+use Rattle.std.proofs.Common.{◌≡◌, ◌⊎◌, ℕ, zero, suc, ◌≤◌, ◌<◌, ◌++◌, List, [], ◌∷◌, Option, Some, None, Bool, true, false, inl, inr, refl, ap, sym, subst, ◌∙◌, arith}
+use Rattle.std.specs.Prelude.{nat_eq, ◌||◌, option_map}
 use Rattle.c_syntax.specs.declared.tree.Named.{Named}
 use Rattle.c_syntax.specs.Shape.{DeclShape, decl, DeclShapes, no_decls, more_decls, DeclaratorShape, declarator, DeclaratorShapes, no_declarators, more_declarators, DeclFormShape, arrays, function, empty, void, params}
 use Rattle.c_tables.specs.Tables.{TablesShape, VariableShape}
@@ -15,7 +13,7 @@ use Rattle.c_walk.specs.Units.{define_declarator, define_declarators, define_dec
 use Rattle.flow_walks.proofs.Appended.{defs_both}
 use Rattle.flow_locals.specs.Locals.{def_at, outer_names, is_among}
 use Rattle.flow_sited.proofs.Numbers.{def_there}
-use Rattle.flow_sited.proofs.Grown.{Grows, grows_none, define_grows, defines_grow, define_decl_grows, define_decls_grow}
+use Rattle.flow_sited.proofs.Grown.{Grows, defines_grow, define_decls_grow}
 
 -- ---- the n-th definition of a list and of a longer one
 

@@ -82,11 +82,12 @@ abbrev pub LocalDefinitionsAreNamed : Type 0
 LocalDefinitionsAreNamed = (P : Source) → AreNamed P → (d : ℕ) (v : Local) → (locals_of P).defined d ≡ Some v → has_scalar_kind (variable_kind P.tables v.variable) ≡ true
     → (x : DefSite) × IsAt (all_sites P).defs d x × HasOwnName P v.variable x.variable x.names
 
--- a use
+-- a use that is a scalar local variable
 pub record IsLocalUse (P : Source) (u : ℕ) (r : Local) : Type 0 where
   pub site : UseSite
   pub at : IsAt (all_sites P).uses u site
   pub named : HasOwnName P r.variable site.variable site.names
+  pub names : r.names ≡ name_at P.tables r.variable 0 ∷ []
   pub scalar : has_scalar_kind (variable_kind P.tables r.variable) ≡ true
   pub plain : is_plain (name_at P.tables r.variable 0) ≡ true
 

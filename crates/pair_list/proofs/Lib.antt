@@ -11,3 +11,5 @@ pub mod Belonging
 pub mod Rowing
 pub mod Joining
 pub mod Placing
+mod Missing
+mod MissingRows

@@ -9,3 +9,4 @@ pub mod Found
 pub mod Items
 pub mod Runs
 pub mod Placed
+pub mod Missing

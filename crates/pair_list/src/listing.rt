@@ -6,7 +6,11 @@ ghost use Rattle.c_tables.specs.Tables.{tables_shape};
 ghost use Rattle.c_sites.specs.Refused.{AreSites};
 ghost use Rattle.atac_base.specs.Items.{ItemLists};
 ghost use Rattle.pair_list.specs.declared.pairs.ListRefusal.TheVariants.{TooManyPairs};
+ghost use Rattle.c_meaning.specs.Sources.{source_of};
+ghost use Rattle.flow_calls.specs.Orderly.{IsOrderlyProgram};
+ghost use Rattle.flow_sited.specs.Sites.{AreNamed};
 ghost use Rattle.pair_list.specs.Items.{AreItems, AreTooMany};
+ghost use Rattle.pair_list.specs.Missing.{MissesNone};
 
 use crate::externals::unit_pairs;
 use crate::kinds::items_with;
@@ -24,6 +28,7 @@ pub fn list(alloc: Global, program: &Program, sites: &Sites) -> Result<Items, Li
     requires { AreSites program.now sites.now }
     ensures items { IfOk result (λ items. AreItems (tables_shape program.now.tables) (unit_shape program.now.unit) sites.now items) }
     ensures more { IfErr result (λ e. e ≡ TooManyPairs → AreTooMany (tables_shape program.now.tables) (unit_shape program.now.unit) sites.now) }
+    ensures misses_none { IfOk result (λ items. IsOrderlyProgram (source_of program.now) → AreNamed (source_of program.now) → MissesNone (source_of program.now) sites.now items) }
     ensures apart { AreTooMany (tables_shape program.now.tables) (unit_shape program.now.unit) sites.now → (items : ItemLists) → AreItems (tables_shape program.now.tables) (unit_shape program.now.unit) sites.now items → ⊥ }
 {
     let pairs = match unit_pairs(alloc, program.tables(), program.unit(), sites) {
