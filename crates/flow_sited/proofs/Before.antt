@@ -138,4 +138,4 @@ pub tests_by_calls : (P : Source) (input : List ℕ) (limit : ℕ) → All IsByC
 tests_by_calls P input limit =
     let s = start input limit in
     outcome_early P.tables limit _ (then_early (all_made P audible s) _ (made_early P audible s (record { all = All-nil IsByCall })) (λ f u e. then_early (present (main_number P.tables) u) _ (present_early (main_number P.tables) u e)
-        (λ f v d. call_early v ((calls P audible).call f [] v) ((calls_apart P audible).call_keeps f [] v) d)))
+    (λ f v d. call_early v ((calls P audible).call f [] v) ((calls_apart P audible).call_keeps f [] v) d)))

@@ -33,18 +33,13 @@ mapped f [] y c = absurd (none_there y c)
 mapped f (x ∷ xs) y (zero, l, e) = record { from = x; there = (0, omega arith, refl); is = e }
 mapped f (x ∷ xs) y (suc k, l, e) = let m = mapped f xs y (k, omega (arith, l), e) in record { from = m.from; there = (suc m.there.0, (let n = m.there.1 in omega arith), m.there.2); is = m.is }
 
-pub map_there : {A B : Type 0} (f : A → B) (xs : List A) (x : A) → Contains xs x → Contains (map f xs) (f x)
-map_there f [] x c = absurd (none_there x c)
-map_there f (y ∷ xs) x (zero, l, e) = (0, omega arith, ap f e)
-map_there f (y ∷ xs) x (suc k, l, e) = let m = map_there f xs x (k, omega (arith, l), e) in (suc m.0, (let n = m.1 in omega arith), m.2)
-
 -- ---- plain texts
 
 both_false : (p q : Bool) → q ≡ false → (p && q) ≡ false
 both_false true q e = e
 both_false false q e = refl
 
-unplain : (x : Text) (b : ℕ) (y : Text) → not (nat_eq b 46 || nat_eq b 91) ≡ false → is_plain (x ++ b ∷ y) ≡ false
+pub unplain : (x : Text) (b : ℕ) (y : Text) → not (nat_eq b 46 || nat_eq b 91) ≡ false → is_plain (x ++ b ∷ y) ≡ false
 unplain [] b y e = ap (λ z. z && is_plain y) e
 unplain (c ∷ x) b y e = both_false (not (nat_eq c 46 || nat_eq c 91)) (is_plain (x ++ b ∷ y)) (unplain x b y e)
 

@@ -1,12 +1,19 @@
-pub mod Grown
-pub mod Outcomes
-pub mod Counted
-pub mod Standing
-pub mod Numbers
+mod Grown
+mod Outcomes
+mod Counted
+mod Standing
+mod Numbers
 pub mod Walks
 pub mod Leaves
-pub mod Whole
-pub mod Told
+mod Whole
+mod Told
 pub mod Named
-pub mod Before
+mod Before
 pub mod Tested
+mod Own
+mod OwnStates
+mod OwnNodes
+mod OwnParts
+mod OwnUnits
+mod OwnItems
+pub mod Programs

@@ -170,5 +170,5 @@ module _ (P : Source) where
         on_either k (def_count j.items) d (nat_le k (def_count j.items)) refl (parameter_of P.tables (def_at k all)) (if nat_le k (def_count u.items) then local_of P.tables outside (def_at k all) else defined_in P.tables all outside rest u k)
         (λ low. site_made k true d (parameter_of P.tables (def_at k all)) (ap (parameter_of P.tables) at))
         (λ past. on_either k (def_count u.items) d (nat_le k (def_count u.items)) refl (local_of P.tables outside (def_at k all)) (defined_in P.tables all outside rest u k)
-            (λ low. site_made k false d (local_of P.tables outside (def_at k all)) (ap (local_of P.tables outside) at ∙ local_site d local))
-            (λ above. told rest u f above le h))
+        (λ low. site_made k false d (local_of P.tables outside (def_at k all)) (ap (local_of P.tables outside) at ∙ local_site d local))
+        (λ above. told rest u f above le h))

@@ -1,6 +1,7 @@
 //! The laws, as contracts.
 
 ghost use Rattle.flow_sited.specs.Sites.{WalksStandInTheirFunction, LocalDefinitionsAreNamed, LocalUsesAreNamed, OwnNamesAreTold, CoveredOutcomesAreListed, CoveredPUsesHaveOutcomes};
+ghost use Rattle.flow_sited.specs.Programs.{ProgramsAreNamed};
 
 /// The definitions and uses of each walk stand in its function, and its outcomes are listed of their decisions.
 pub fn walks_stand_in_their_function()
@@ -19,4 +20,10 @@ pub fn local_sites_are_named()
 pub fn covered_outcomes_are_listed()
     ensures outcomes { CoveredOutcomesAreListed }
     ensures p_uses { CoveredPUsesHaveOutcomes }
+{}
+
+/// In each program of the checker a variable's name, where it stands, is the variable's own.
+#[tactic(auto, using(crate::proofs::Programs::programs_are_named))]
+pub fn programs_are_named()
+    ensures named { ProgramsAreNamed }
 {}

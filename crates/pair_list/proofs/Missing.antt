@@ -1,17 +1,10 @@
 -- The list misses nothing that runs cover between sites of one scalar local variable or parameter.
-use Rattle.std.proofs.Common.{ℕ, zero, suc, ◌+◌, ◌-◌, ◌<◌, ◌≤◌, ◌≡◌, ◌⊎◌, inl, inr, List, [], ◌∷◌, ◌++◌, length, map, option_map, Option, Some, None, refl, ap, sym, subst, ◌∙◌, arith}
+use Rattle.std.proofs.Common.{ℕ, zero, suc, ◌+◌, ◌-◌, ◌<◌, ◌≤◌, ◌≡◌, ◌⊎◌, inl, inr, List, [], ◌∷◌, ◌++◌, option_map, Option, Some, None, refl, ap, sym, subst, ◌∙◌, arith}
 use Rattle.std.specs.Prelude.{slice_get, Contains}
-use Rattle.std.proofs.lemmas.List.Elements.{Contains-append_left, Contains-append_right, Contains-append_cases}
-use Rattle.std.proofs.lemmas.Option.{slice_get-map, slice_get_within}
+use Rattle.std.proofs.lemmas.List.Elements.{Contains-append_left, Contains-append_right}
+use Rattle.std.proofs.lemmas.Option.{slice_get-map}
 use Rattle.c_base.specs.declared.labels.OutcomeLabel.{OutcomeLabel}
-use Rattle.c_syntax.specs.View.{unit_shape}
 use Rattle.c_syntax.specs.declared.text.Text.{Text}
-use Rattle.c_tables.specs.Tables.{tables_shape}
-use Rattle.c_tree.specs.declared.program.Program.{Program}
-use Rattle.atac_base.specs.declared.rows.PairRow.{PairRow}
-use Rattle.atac_base.specs.declared.rows.PUseRow.{PUseRow}
-use Rattle.atac_base.specs.Items.{ItemLists}
-use Rattle.atac_facts.specs.declared.fact.Fact.TheVariants as fact
 use Rattle.c_sites.specs.declared.lists.Decision as code_decision
 use Rattle.c_sites.specs.declared.lists.DefSite as code_def
 use Rattle.c_sites.specs.declared.lists.UseSite as code_use
@@ -19,30 +12,24 @@ use Rattle.c_sites.specs.declared.numbered.Sites.{Sites}
 use Rattle.c_sites.specs.Kinds.{Decision, DefSite, UseSite}
 use Rattle.c_sites.specs.Lists.{Lists}
 use Rattle.c_sites.specs.ListsView.{decision_shape, def_shape, use_shape, lists_shape}
-use Rattle.c_sites.specs.Refused.{AreNumbered, AreSites}
 use Rattle.c_meaning.specs.Layout.{variable_kind}
 use Rattle.c_meaning.specs.Calls.{Source}
-use Rattle.c_meaning.specs.Sources.{source_of}
 use Rattle.flow_walks.specs.declared.action.Action.{Action}
 use Rattle.flow_walks.specs.declared.action.Action.TheVariants.{Define, Use, Block, Test, Kill, Nothing}
-use Rattle.flow_walks.specs.Walks.{Walk}
-use Rattle.flow_calls.specs.Orderly.{IsOrderlyProgram}
 use Rattle.flow_misses.specs.Placing.{Local}
 use Rattle.flow_misses.specs.Pairs as misses
 use Rattle.flow_locals.specs.Locals.{has_scalar_kind, name_at, locals_of}
 use Rattle.flow_locals.proofs.Laws.{local_names_are_strong}
-use Rattle.flow_covered.proofs.Positions.{covered_pairs, covered_p_uses}
-use Rattle.flow_sited.specs.Sites.{all_items, all_sites, IsAt, HasOutcome, StandsIn, AreNamed, own_number, IsLocalUse}
+use Rattle.flow_sited.specs.Sites.{all_sites, IsAt, HasOutcome, StandsIn, AreNamed, own_number, IsLocalUse}
 use Rattle.flow_sited.proofs.Walks.{walks_stand}
 use Rattle.flow_sited.proofs.Leaves.{none_there, one_there}
 use Rattle.flow_sited.proofs.Named.{local_definitions_are_named, local_uses_are_named, own_names_are_told}
-use Rattle.flow_sited.proofs.Tested.{covered_p_uses_have_outcomes}
 use Rattle.pair_list.specs.declared.pairs.Pair.{Pair}
 use Rattle.pair_list.specs.Sites.{IsDef, IsUse}
-use Rattle.pair_list.specs.Listed.{Ends, Share, IsPair}
-use Rattle.pair_list.specs.PairLists.{AreThose, with_uses, pairs_from, all_pairs, labels_of, labels_at}
-use Rattle.pair_list.specs.Items.{IsListed, pair_row, with_outcomes, c_use_of, p_uses_of, c_use_at, p_uses_at, c_use_rows, p_use_rows, AreItems}
-use Rattle.pair_list.specs.Missing.{owner_in, owner_at, AreLocal, IsCUse, IsPUse, IsAmong, MissesNone}
+use Rattle.pair_list.specs.Listed.{Ends, Share}
+use Rattle.pair_list.specs.PairLists.{AreThose, with_uses, pairs_from, labels_of, labels_at}
+use Rattle.pair_list.specs.Items.{IsListed}
+use Rattle.pair_list.specs.Missing.{owner_in, owner_at}
 
 -- ---- in lists
 

@@ -7,6 +7,7 @@ use Rattle.c_base.specs.declared.labels.OutcomeLabel.{OutcomeLabel}
 use Rattle.c_syntax.specs.View.{unit_shape}
 use Rattle.c_tables.specs.Tables.{tables_shape}
 use Rattle.c_tree.specs.declared.program.Program.{Program}
+use Rattle.c_tree.specs.Programs.{HoldsProgram}
 use Rattle.atac_base.specs.declared.rows.PairRow.{PairRow}
 use Rattle.atac_base.specs.declared.rows.PUseRow.{PUseRow}
 use Rattle.atac_base.specs.Items.{ItemLists}
@@ -20,14 +21,14 @@ use Rattle.c_meaning.specs.Sources.{source_of}
 use Rattle.flow_calls.specs.Orderly.{IsOrderlyProgram}
 use Rattle.flow_covered.proofs.Positions.{covered_pairs, covered_p_uses}
 use Rattle.flow_sited.specs.Sites.{AreNamed}
+use Rattle.flow_sited.proofs.Programs.{held_named}
 use Rattle.flow_sited.proofs.Leaves.{none_there}
 use Rattle.flow_sited.proofs.Tested.{covered_p_uses_have_outcomes}
 use Rattle.pair_list.specs.declared.pairs.Pair.{Pair}
 use Rattle.pair_list.specs.Sites.{IsDef, IsUse}
-use Rattle.pair_list.specs.Listed.{Share}
 use Rattle.pair_list.specs.PairLists.{all_pairs, labels_at}
 use Rattle.pair_list.specs.Items.{IsListed, pair_row, with_outcomes, c_use_of, p_uses_of, c_use_at, p_uses_at, c_use_rows, p_use_rows, AreItems}
-use Rattle.pair_list.specs.Missing.{owner_at, AreLocal, Covers, IsCUse, IsPUse, IsAmong, MissesNone}
+use Rattle.pair_list.specs.Missing.{owner_at, AreLocal, Covers, IsPUse, IsAmong, MissesNone}
 use Rattle.pair_list.proofs.Missing.{pair_of, pair_there, those_there, labels_here, owner_is, listed}
 
 -- ---- the rows of a pair
@@ -118,5 +119,7 @@ module _ (program : Program) (s : Sites) (sites : AreSites program s) (items : I
       let h = labels_here P s sites.numbered.lists c.0 o (covered_p_uses_have_outcomes P orderly (owner_at s) input limit d u c.0 o c.1 c) in
       p_use_of d u c.0 o h.0 f (sym (owner_is P s sites.numbered.lists u f.used f.is_use) ∙ c.1) h.1
 
-pub misses_none : (program : Program) (s : Sites) → AreSites program s → (items : ItemLists) → AreItems (tables_shape program.tables) (unit_shape program.unit) s items → IsOrderlyProgram (source_of program) → AreNamed (source_of program) → MissesNone (source_of program) s items
-misses_none program s sites items are orderly named = record { pairs = pairs_among program s sites items are orderly named; p_uses = p_uses_among program s sites items are orderly named }
+pub misses_none : (program : Program) (s : Sites) → AreSites program s → (items : ItemLists) → AreItems (tables_shape program.tables) (unit_shape program.unit) s items → ∥ HoldsProgram (unit_shape program.unit) (tables_shape program.tables) ∥₁ → IsOrderlyProgram (source_of program) → MissesNone (source_of program) s items
+misses_none program s sites items are held orderly =
+    let named = held_named (source_of program) held in
+    record { pairs = pairs_among program s sites items are orderly named; p_uses = p_uses_among program s sites items are orderly named }

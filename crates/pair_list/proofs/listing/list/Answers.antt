@@ -29,4 +29,4 @@ returns-in-Ok-items_with-clause-misses_none c =
     let both = subst (λ u. AreThose (IsListed (tables_shape p.tables) (unit_shape u) s) (all_pairs s) c.in-Ok.pairs.items) c.unit.ensures.unit here in
     let are = subst (AreThose (IsListed (tables_shape p.tables) (unit_shape p.unit) s) (all_pairs s)) (sym c.deref.ensures.value) both in
     let few = subst (λ l. items_in s l ≤ most_items) (sym c.deref.ensures.value) c.in-Ok.ensures.few in
-    misses_none p s c.requires c.in-Ok-items_with.items (are_items (tables_shape p.tables) (unit_shape p.unit) s c.deref.result.now c.in-Ok-items_with.items are few c.in-Ok-items_with.ensures)
+    misses_none p s c.requires c.in-Ok-items_with.items (are_items (tables_shape p.tables) (unit_shape p.unit) s c.deref.result.now c.in-Ok-items_with.items are few c.in-Ok-items_with.ensures) p.typed
