@@ -12,4 +12,5 @@ pub mod Rowing
 pub mod Joining
 pub mod Placing
 mod Missing
+mod OrderlyProps
 mod MissingRows

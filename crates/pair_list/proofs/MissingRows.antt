@@ -2,6 +2,7 @@
 use Rattle.std.proofs.Common.{ℕ, zero, suc, ◌-◌, ◌≡◌, List, [], ◌∷◌, ◌++◌, length, Option, Some, None, refl, ap, sym, subst, ◌∙◌, arith}
 use Rattle.std.specs.Prelude.{slice_get, Contains}
 use Rattle.std.proofs.lemmas.List.Elements.{Contains-append_left, Contains-append_right}
+use Rattle.std.proofs.Math.Logic.{∥∥₁_elim}
 use Rattle.std.proofs.lemmas.Option.{slice_get_within}
 use Rattle.c_base.specs.declared.labels.OutcomeLabel.{OutcomeLabel}
 use Rattle.c_syntax.specs.View.{unit_shape}
@@ -19,6 +20,8 @@ use Rattle.c_sites.specs.Refused.{AreSites}
 use Rattle.c_meaning.specs.Calls.{Source}
 use Rattle.c_meaning.specs.Sources.{source_of}
 use Rattle.flow_calls.specs.Orderly.{IsOrderlyProgram}
+use Rattle.flow_orderly.specs.Initialised.{AreInitialised}
+use Rattle.flow_orderly.proofs.Laws.{accepted_is_orderly}
 use Rattle.flow_covered.proofs.Positions.{covered_pairs, covered_p_uses}
 use Rattle.flow_sited.specs.Sites.{AreNamed}
 use Rattle.flow_sited.proofs.Programs.{held_named}
@@ -29,6 +32,7 @@ use Rattle.pair_list.specs.Sites.{IsDef, IsUse}
 use Rattle.pair_list.specs.PairLists.{all_pairs, labels_at}
 use Rattle.pair_list.specs.Items.{IsListed, pair_row, with_outcomes, c_use_of, p_uses_of, c_use_at, p_uses_at, c_use_rows, p_use_rows, AreItems}
 use Rattle.pair_list.specs.Missing.{owner_at, AreLocal, Covers, IsPUse, IsAmong, MissesNone}
+use Rattle.pair_list.proofs.OrderlyProps.{orderly_prop}
 use Rattle.pair_list.proofs.Missing.{pair_of, pair_there, those_there, labels_here, owner_is, listed}
 
 -- ---- the rows of a pair
@@ -119,7 +123,9 @@ module _ (program : Program) (s : Sites) (sites : AreSites program s) (items : I
       let h = labels_here P s sites.numbered.lists c.0 o (covered_p_uses_have_outcomes P orderly (owner_at s) input limit d u c.0 o c.1 c) in
       p_use_of d u c.0 o h.0 f (sym (owner_is P s sites.numbered.lists u f.used f.is_use) ∙ c.1) h.1
 
-pub misses_none : (program : Program) (s : Sites) → AreSites program s → (items : ItemLists) → AreItems (tables_shape program.tables) (unit_shape program.unit) s items → ∥ HoldsProgram (unit_shape program.unit) (tables_shape program.tables) ∥₁ → IsOrderlyProgram (source_of program) → MissesNone (source_of program) s items
-misses_none program s sites items are held orderly =
-    let named = held_named (source_of program) held in
+pub misses_none : (program : Program) (s : Sites) → AreSites program s → (items : ItemLists) → AreItems (tables_shape program.tables) (unit_shape program.unit) s items → ∥ HoldsProgram (unit_shape program.unit) (tables_shape program.tables) ∥₁ → AreInitialised (source_of program) → MissesNone (source_of program) s items
+misses_none program s sites items are held initialised =
+    let P = source_of program in
+    let named = held_named P held in
+    let orderly = ∥∥₁_elim held (orderly_prop P) (λ h. accepted_is_orderly P h.program sites.clean initialised) in
     record { pairs = pairs_among program s sites items are orderly named; p_uses = p_uses_among program s sites items are orderly named }
