@@ -20,9 +20,8 @@ use Rattle.c_sites.specs.Refused.{AreSites}
 use Rattle.c_meaning.specs.Calls.{Source}
 use Rattle.c_meaning.specs.Sources.{source_of}
 use Rattle.flow_calls.specs.Orderly.{IsOrderlyProgram}
-use Rattle.flow_orderly.specs.Initialised.{AreInitialised}
-use Rattle.flow_orderly.proofs.Laws.{accepted_is_orderly}
 use Rattle.flow_covered.proofs.Positions.{covered_pairs, covered_p_uses}
+use Rattle.flow_accepted.proofs.Programs.{taken_is_orderly}
 use Rattle.flow_sited.specs.Sites.{AreNamed}
 use Rattle.flow_sited.proofs.Programs.{held_named}
 use Rattle.flow_sited.proofs.Leaves.{none_there}
@@ -123,9 +122,9 @@ module _ (program : Program) (s : Sites) (sites : AreSites program s) (items : I
       let h = labels_here P s sites.numbered.lists c.0 o (covered_p_uses_have_outcomes P orderly (owner_at s) input limit d u c.0 o c.1 c) in
       p_use_of d u c.0 o h.0 f (sym (owner_is P s sites.numbered.lists u f.used f.is_use) ∙ c.1) h.1
 
-pub misses_none : (program : Program) (s : Sites) → AreSites program s → (items : ItemLists) → AreItems (tables_shape program.tables) (unit_shape program.unit) s items → ∥ HoldsProgram (unit_shape program.unit) (tables_shape program.tables) ∥₁ → AreInitialised (source_of program) → MissesNone (source_of program) s items
-misses_none program s sites items are held initialised =
+pub misses_none : (program : Program) (s : Sites) → AreSites program s → (items : ItemLists) → AreItems (tables_shape program.tables) (unit_shape program.unit) s items → ∥ HoldsProgram (unit_shape program.unit) (tables_shape program.tables) ∥₁ → MissesNone (source_of program) s items
+misses_none program s sites items are held =
     let P = source_of program in
     let named = held_named P held in
-    let orderly = ∥∥₁_elim held (orderly_prop P) (λ h. accepted_is_orderly P h.program sites.clean initialised) in
+    let orderly = ∥∥₁_elim held (orderly_prop P) (λ h. taken_is_orderly P h.program sites.clean) in
     record { pairs = pairs_among program s sites items are orderly named; p_uses = p_uses_among program s sites items are orderly named }
