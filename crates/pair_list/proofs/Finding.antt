@@ -1,10 +1,10 @@
 -- What passes find are the pairs that rows have.
-use Rattle.std.proofs.Common.{ℕ, zero, suc, ◌+◌, ◌-◌, ◌*◌, ◌<◌, ◌≤◌, ◌≡◌, ◌⊎◌, ◌↔◌, inl, inr, List, [], ◌∷◌, ◌++◌, length, get_or, set, get_or-set_same, get_or-set_other, Option, Some, None, Bool, true, false, refl, ap, sym, subst, ◌∙◌, arith}
+use Rattle.std.proofs.Common.{ℕ, zero, suc, ◌+◌, ◌-◌, ◌*◌, ◌<◌, ◌≤◌, ◌≡◌, ◌⊎◌, ◌↔◌, inl, inr, List, [], ◌∷◌, ◌++◌, length, get_or, set, get_or-set_same, get_or-set_other, Some, Bool, true, false, refl, ap, sym, subst, ◌∙◌, arith}
 use Rattle.std.specs.Prelude.{slice_get, Contains}
 use Rattle.std.specs.Int.{bit_at}
 use Rattle.std.proofs.lemmas.Bool.{cases_lt}
 use Rattle.std.proofs.lemmas.Nat.Bits.{bit_at-zero, bit_at-pow_other}
-use Rattle.std.proofs.lemmas.List.{get_or_past, get_or_default, length-append}
+use Rattle.std.proofs.lemmas.List.{get_or_past, length-append}
 use Rattle.std.proofs.lemmas.Option.{slice_get_past, slice_get_read, slice_get_within}
 use Rattle.flow_walks.specs.declared.action.Action.{Action}
 use Rattle.flow_walks.specs.declared.action.Action.TheVariants.{Define, Use, Block, Test, Kill, Nothing}
@@ -12,16 +12,15 @@ use Rattle.flow_marks.specs.declared.flow.FlowRow.{FlowRow}
 use Rattle.flow_marks.specs.Paths.{action_of, action_at, Way, Leads, IsReached}
 use Rattle.flow_marks.specs.Words.{HasBit, Arrives}
 use Rattle.flow_marks.proofs.Passing.{same_or_not}
-use Rattle.c_sites.specs.declared.lists.DefSite.{DefSite}
 use Rattle.c_sites.specs.declared.numbered.Sites.{Sites}
 use Rattle.pair_list.specs.declared.marks.Mark.{Mark}
 use Rattle.pair_list.specs.Sites.{IsDef}
-use Rattle.pair_list.specs.Listed.{Ends, Share}
+use Rattle.pair_list.specs.Listed.{Ends}
 use Rattle.pair_list.specs.Found.{IsFound}
-use Rattle.pair_list.specs.Marks.{IsMark, HasMark, AreMarks, EndsMark, Meets, Finds}
+use Rattle.pair_list.specs.Marks.{IsMark, AreMarks, EndsMark, Finds}
 use Rattle.pair_list.specs.Masks.{MarkAt, IsMask, AreReached, AreGiven, AreStopped, IsEntry}
-use Rattle.pair_list.specs.Hits.{MeetsOne, UseMeets, RowHits, SomeHits, FindsOne, FindsAny, AddsBits}
-use Rattle.pair_list.proofs.Making.{some_is, not_some, one_def}
+use Rattle.pair_list.specs.Hits.{SomeHits, FindsOne, FindsAny, AddsBits}
+use Rattle.pair_list.proofs.Making.{some_is}
 use Rattle.pair_list.proofs.Masking.{mask_same}
 use Rattle.pair_list.proofs.Meeting.{adds_same, adds_then}
 

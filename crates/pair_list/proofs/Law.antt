@@ -7,7 +7,7 @@ use Rattle.flow_walks.specs.declared.action.Action.{Action}
 use Rattle.flow_walks.specs.declared.action.Action.TheVariants.{Define, Use, Block, Test, Kill, Nothing}
 use Rattle.c_sites.specs.declared.numbered.Sites.{Sites}
 use Rattle.flow_marks.specs.declared.flow.FlowRow.{FlowRow}
-use Rattle.flow_marks.specs.Paths.{action_of, next_of, action_at, IsStep, IsPath, put, spelled, Spells, Way, Leads, IsReached}
+use Rattle.flow_marks.specs.Paths.{action_of, action_at, IsStep, IsPath, put, spelled, Spells, Way, Leads, IsReached}
 use Rattle.pair_list.specs.Listed.{Ends, IsPair}
 use Rattle.pair_list.specs.Found.{IsFound}
 

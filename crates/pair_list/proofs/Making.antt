@@ -1,14 +1,14 @@
 -- The marks of definitions.
-use Rattle.std.proofs.Common.{ℕ, zero, suc, ◌+◌, ◌-◌, ◌<◌, ◌≤◌, ◌≡◌, ◌⊎◌, ◌↔◌, inl, inr, List, [], ◌∷◌, ◌++◌, length, get_or, Option, Some, None, Bool, true, false, refl, ap, sym, subst, ◌∙◌, arith}
+use Rattle.std.proofs.Common.{ℕ, zero, suc, ◌+◌, ◌≡◌, ◌⊎◌, ◌↔◌, inl, inr, List, [], ◌∷◌, ◌++◌, length, get_or, Option, Some, None, true, refl, ap, sym, subst, ◌∙◌, arith}
 use Rattle.std.specs.Prelude.{slice_get, Contains}
 use Rattle.std.proofs.lemmas.Bool.{cases_lt}
 use Rattle.std.proofs.lemmas.List.{get_or_default}
-use Rattle.std.proofs.lemmas.Option.{slice_get_read, slice_get_past, slice_get_within}
+use Rattle.std.proofs.lemmas.Option.{slice_get_read, slice_get_within}
 use Rattle.c_sites.specs.declared.lists.DefSite.{DefSite}
 use Rattle.c_sites.specs.declared.numbered.Sites.{Sites}
 use Rattle.pair_list.specs.declared.marks.Mark.{Mark}
 use Rattle.pair_list.specs.Sites.{IsDef, IsStrong}
-use Rattle.pair_list.specs.Marks.{IsMark, HasMark, AreMarks, AddsNames, AddsMarks}
+use Rattle.pair_list.specs.Marks.{HasMark, AreMarks, AddsNames, AddsMarks}
 
 pub some_is : {A : Type 0} → (x y : A) → Some x ≡ Some y → x ≡ y
 some_is {A} x y e = ap or_else e

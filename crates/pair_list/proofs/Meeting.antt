@@ -1,6 +1,6 @@
 -- Which uses which marks meet.
-use Rattle.std.proofs.Common.{ℕ, zero, suc, ◌+◌, ◌-◌, ◌<◌, ◌≤◌, ◌≡◌, ◌⊎◌, ◌↔◌, inl, inr, List, [], ◌∷◌, ◌++◌, length, get_or, set, Option, Some, None, Bool, true, false, refl, ap, sym, subst, ◌∙◌, arith, bit_or, get_or-set_same, get_or-set_other}
-use Rattle.std.specs.Prelude.{slice_get, Contains}
+use Rattle.std.proofs.Common.{ℕ, ◌+◌, ◌-◌, ◌<◌, ◌≤◌, ◌≡◌, ◌⊎◌, ◌↔◌, inl, inr, List, length, get_or, set, Some, true, refl, ap, sym, subst, ◌∙◌, arith, bit_or, get_or-set_same, get_or-set_other}
+use Rattle.std.specs.Prelude.{slice_get}
 use Rattle.std.specs.Int.{bit_at}
 use Rattle.std.proofs.lemmas.Bool.{cases_lt}
 use Rattle.std.proofs.lemmas.Nat.Bits.{bit_at-zero}
@@ -17,7 +17,7 @@ use Rattle.pair_list.specs.declared.marks.Mark.{Mark}
 use Rattle.pair_list.specs.Marks.{Meets}
 use Rattle.pair_list.specs.Masks.{MarkAt}
 use Rattle.pair_list.specs.Hits.{MeetsOne, DefOf, UseMeets, RowHits, SomeHits, AddsBits}
-use Rattle.pair_list.proofs.Making.{not_some, some_is}
+use Rattle.pair_list.proofs.Making.{some_is}
 
 -- the definitions of the marks of a word: some of them are found, the others' marks are left
 pub record DefsLeft (marks : List Mark) (start first word left bits : ℕ) : Type 0 where

@@ -1,15 +1,14 @@
 -- The pairs that are picked are those that P holds of.
-use Rattle.std.proofs.Common.{ℕ, zero, suc, ◌+◌, ◌-◌, ◌<◌, ◌≤◌, ◌≡◌, ◌↔◌, inl, inr, List, [], ◌∷◌, ◌++◌, length, get_or, Some, Bool, true, false, cond, refl, ap, sym, subst, ◌∙◌, arith, append_assoc}
-use Rattle.std.specs.Prelude.{slice_get, ◌==◌}
+use Rattle.std.proofs.Common.{ℕ, zero, suc, ◌+◌, ◌-◌, ◌<◌, ◌≤◌, ◌≡◌, ◌↔◌, inl, inr, List, [], ◌∷◌, ◌++◌, length, get_or, Bool, true, false, cond, refl, ap, sym, subst, ◌∙◌, arith, append_assoc}
+use Rattle.std.specs.Prelude.{◌==◌}
 use Rattle.std.specs.Int.{bit_at}
 use Rattle.std.proofs.lemmas.List.{append-nil}
 use Rattle.std.proofs.lemmas.List.Sums.{sum_by_push}
-use Rattle.std.proofs.lemmas.Bool.{cases_lt, eqb-true, eqb-false, eq-eqb}
+use Rattle.std.proofs.lemmas.Bool.{eqb-true, eq-eqb}
 use Rattle.flow_marks.specs.Words.{HasBit}
-use Rattle.c_sites.specs.declared.lists.UseSite.{UseSite}
 use Rattle.c_sites.specs.declared.numbered.Sites.{Sites}
 use Rattle.pair_list.specs.declared.pairs.Pair.{Pair}
-use Rattle.pair_list.specs.PairLists.{AreThose, with_uses, pairs_from, owned, weight, items_in, HasMore, picked}
+use Rattle.pair_list.specs.PairLists.{AreThose, with_uses, pairs_from, weight, items_in, picked}
 
 pub items_push : (s : Sites) (pairs : List Pair) (p : Pair) → items_in s (pairs ++ p ∷ []) ≡ items_in s pairs + weight s p.used
 items_push s pairs p = sum_by_push (λ p. weight s p.used) pairs p

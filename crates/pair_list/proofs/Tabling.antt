@@ -1,10 +1,9 @@
 -- Which of 64 marks have a name or a variable.
-use Rattle.std.proofs.Common.{ℕ, zero, suc, ◌+◌, ◌-◌, ◌<◌, ◌≤◌, ◌≡◌, ◌⊎◌, ◌↔◌, inl, inr, List, [], ◌∷◌, length, get_or, set, Option, Some, None, Bool, true, false, refl, ap, sym, subst, ◌∙◌, arith, ◌*◌, ◌%◌, ◌^◌, w64, bit_or, bit_and, get_or-set_same, get_or-set_other}
+use Rattle.std.proofs.Common.{ℕ, ◌+◌, ◌-◌, ◌<◌, ◌≤◌, ◌≡◌, ◌⊎◌, ◌↔◌, inl, inr, List, length, get_or, set, Option, Some, true, refl, ap, sym, subst, ◌∙◌, arith, ◌*◌, ◌%◌, ◌^◌, w64, bit_or, bit_and, get_or-set_same, get_or-set_other}
 use Rattle.std.specs.Prelude.{slice_get, Contains}
 use Rattle.std.specs.Int.{bit_at, bit_not}
 use Rattle.std.proofs.lemmas.Bool.{cases_lt}
 use Rattle.std.proofs.lemmas.Nat.Bits.{bit_at-zero, bit_at_and, bit_at-lt, bit_at_above, bit_at_clear_same, bit_at_clear_other}
-use Rattle.std.proofs.lemmas.List.{get_or_default, length-set}
 use Rattle.std.proofs.lemmas.Option.{slice_get_within, get_or_from_slice_get, slice_get-get_or}
 use Rattle.flow_marks.specs.Words.{HasBit}
 use Rattle.flow_marks.proofs.Passing.{or_left, or_right, or_only, same_or_not}
@@ -15,7 +14,6 @@ use Rattle.pair_list.specs.Sites.{IsDef}
 use Rattle.pair_list.specs.Marks.{EndsMark}
 use Rattle.pair_list.specs.declared.marks.Mark.{Mark}
 use Rattle.pair_list.specs.declared.tables.By.{By}
-use Rattle.pair_list.specs.declared.tables.By.TheVariants.{Name, Variable}
 use Rattle.pair_list.specs.Masks.{MarkAt, IsMask}
 use Rattle.pair_list.specs.Hits.{AddsBits}
 use Rattle.pair_list.specs.Tables.{key_of, Covers, IsTable, IsEmpty, IsLeft}

@@ -1,5 +1,5 @@
 -- Marks: a definition and one of its leaf names.
-use Rattle.std.specs.Prelude.{ℕ, ◌+◌, ◌<◌, ◌≤◌, ◌≡◌, ◌↔◌, ◌⊎◌, List, Some, Bool, true, slice_get, Contains}
+use Rattle.std.specs.Prelude.{ℕ, ◌+◌, ◌<◌, ◌≤◌, ◌≡◌, ◌↔◌, ◌⊎◌, List, Some, true, slice_get, Contains}
 use Rattle.std.proofs.Math.ListN.{get_or}
 use Rattle.flow_walks.specs.declared.action.Action.{Action}
 use Rattle.flow_walks.specs.declared.action.Action.TheVariants.{Define, Use, Block, Test, Kill, Nothing}

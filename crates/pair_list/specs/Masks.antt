@@ -2,7 +2,6 @@
 use Rattle.std.specs.Prelude.{ℕ, ◌+◌, ◌<◌, ◌≡◌, ◌↔◌, List, Some, Bool, true, false, length, slice_get}
 use Rattle.std.specs.Int.{bit_at}
 use Rattle.std.proofs.Math.ListN.{get_or}
-use Rattle.flow_walks.specs.declared.action.Action.{Action}
 use Rattle.flow_walks.specs.declared.action.Action.TheVariants.{Define}
 use Rattle.flow_marks.specs.declared.flow.FlowRow.{FlowRow}
 use Rattle.flow_marks.specs.Paths.{action_at, IsReached}

@@ -1,5 +1,5 @@
 -- Which of 64 marks have a name or a variable.
-use Rattle.std.specs.Prelude.{ℕ, ◌+◌, ◌<◌, ◌≤◌, ◌≡◌, ◌↔◌, List, Some, Bool, true, length, slice_get}
+use Rattle.std.specs.Prelude.{ℕ, ◌+◌, ◌<◌, ◌≤◌, ◌≡◌, ◌↔◌, List, Some, true, length, slice_get}
 use Rattle.flow_marks.specs.Words.{HasBit}
 use Rattle.pair_list.specs.declared.marks.Mark.{Mark}
 use Rattle.pair_list.specs.declared.tables.By.{By}

@@ -1,4 +1,4 @@
-use Rattle.std.proofs.Common.{◌<◌, length, arith}
+use Rattle.std.proofs.Common.{arith}
 use Rattle.pair_list.proofs.Finding.{entry_is}
 use Rattle.pair_list.proofs.reached.entry.Goals as goal
 

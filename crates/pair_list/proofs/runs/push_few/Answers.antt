@@ -1,5 +1,4 @@
-use Rattle.std.proofs.Common.{ℕ, ◌+◌, ◌-◌, ◌<◌, ◌≤◌, ◌≡◌, ◌↔◌, length, arith}
-use Rattle.flow_marks.specs.Words.{HasBit}
+use Rattle.std.proofs.Common.{◌+◌, length, arith}
 use Rattle.pair_list.specs.Found.{IsFoundPair}
 use Rattle.pair_list.proofs.Running.{appends_more, more_now}
 use Rattle.pair_list.proofs.runs.push_few.Goals as goal

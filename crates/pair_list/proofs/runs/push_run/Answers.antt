@@ -1,4 +1,4 @@
-use Rattle.std.proofs.Common.{◌+◌, ◌-◌, ◌≤◌, length, arith}
+use Rattle.std.proofs.Common.{length, arith}
 use Rattle.pair_list.specs.Found.{IsFoundPair}
 use Rattle.pair_list.proofs.Running.{appends_both, more_later}
 use Rattle.pair_list.proofs.runs.push_run.Goals as goal
