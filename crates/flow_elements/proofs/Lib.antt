@@ -1,0 +1,7 @@
+mod Steps
+mod Copied
+mod Nodes
+pub mod Names
+mod Yields
+mod Stepping
+pub mod Places
