@@ -4,4 +4,5 @@ mod Nodes
 pub mod Names
 mod Yields
 mod Stepping
+pub mod Layers
 pub mod Places

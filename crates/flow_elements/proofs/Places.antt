@@ -27,6 +27,7 @@ use Rattle.flow_kinds.specs.Kinded.{noted_kind, kind_of, element_in, field_in, I
 use Rattle.flow_elements.specs.Parts.{IsPart, itself, element, member}
 use Rattle.flow_elements.specs.Standing.{root_of, form_root, HasSameNames, KeepsNames, StandsAt, BeginsAt}
 use Rattle.flow_elements.specs.Laws.{DirectPlacesStand, DirectArraysBegin}
+use Rattle.flow_elements.proofs.Layers.{some_same}
 use Rattle.flow_elements.proofs.Steps.{names_follow}
 use Rattle.flow_elements.proofs.Nodes.{Keeping, node_steady}
 use Rattle.flow_elements.proofs.Yields.{Yields, Any, still_there, yields, yields_then, yields_turn, yields_if, yields_settled, yields_present, yields_needed, yields_any, known as given, leaves_if}
@@ -44,13 +45,6 @@ type_known : (a : NodeShape) (k : TypeOf) → kind_of a ≡ Some k → type_at a
 type_known (node p o bare f) k e = cc
 type_known (node p o (typed y m) f) k e = cc
 type_known (node p o (known y v) f) k e = cc
-
-some_same : {A : Type 0} (a b : A) → Some a ≡ Some b → a ≡ b
-some_same a b e = ap (λ o. or_other a o) e
-  where
-    or_other : {A : Type 0} → A → Option A → A
-    or_other a None = a
-    or_other a (Some b) = b
 
 -- a value, which is a pointer to the first element
 abbrev Begun : TablesShape → Text → Direct → TypeOf → ℕ → Option Value → State → Type 0

@@ -1,5 +1,6 @@
 //! The laws, as contracts.
 
+ghost use Rattle.flow_elements.specs.Names.{PartsHaveNames};
 ghost use Rattle.flow_elements.specs.Laws.{CallsKeepNames, DirectPlacesStand, DirectArraysBegin};
 
 /// What names stand for is the same behind each call of a program.
@@ -12,4 +13,9 @@ pub fn calls_keep_names()
 pub fn direct_places_stand()
     ensures places { DirectPlacesStand }
     ensures arrays { DirectArraysBegin }
+{}
+
+/// The cells of a part of an object have the names that they have in the whole, where no structure lies in itself.
+pub fn parts_have_names()
+    ensures { PartsHaveNames }
 {}
