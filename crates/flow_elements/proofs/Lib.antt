@@ -1,7 +1,3 @@
-mod Steps
-mod Copied
-mod Nodes
-pub mod Names
 mod Yields
 mod Stepping
 pub mod Layers

@@ -25,12 +25,14 @@ use Rattle.c_meaning.specs.Knot.{Knot}
 use Rattle.c_meaning.specs.Expressions.{Meaning, as_place, operand, meaning, form_meaning}
 use Rattle.flow_kinds.specs.Kinded.{noted_kind, kind_of, element_in, field_in, IsTyped, HasKind, IsKinded, HasKindedParts}
 use Rattle.flow_elements.specs.Parts.{IsPart, itself, element, member}
-use Rattle.flow_elements.specs.Standing.{root_of, form_root, HasSameNames, KeepsNames, StandsAt, BeginsAt}
+use Rattle.flow_elements.specs.Standing.{root_of, form_root, StandsAt, BeginsAt}
 use Rattle.flow_elements.specs.Laws.{DirectPlacesStand, DirectArraysBegin}
 use Rattle.flow_elements.proofs.Layers.{some_same}
-use Rattle.flow_elements.proofs.Steps.{names_follow}
-use Rattle.flow_elements.proofs.Nodes.{Keeping, node_steady}
-use Rattle.flow_elements.proofs.Yields.{Yields, Any, still_there, yields, yields_then, yields_turn, yields_if, yields_settled, yields_present, yields_needed, yields_any, known as given, leaves_if}
+use Rattle.flow_names.specs.Keeping.{HasSameNames}
+use Rattle.flow_names.proofs.Names.{keeping}
+use Rattle.flow_names.proofs.Steps.{names_follow}
+use Rattle.flow_names.proofs.Nodes.{Keeping, node_steady}
+use Rattle.flow_elements.proofs.Yields.{Yields, Any, still_there, yields, yields_then, yields_turn, yields_if, yields_settled, yields_present, yields_needed, yields_any, known as given}
 use Rattle.flow_elements.proofs.Stepping.{part_at, yields_part, IsAlong, left_along, right_along}
 
 -- ---- types
@@ -284,9 +286,6 @@ module _ (t : TablesShape) where
       form_both p n (probe u a) d g is e = cc
 
 -- ---- the laws
-
-keeping : (k : Knot) → KeepsNames k → Keeping HasSameNames k
-keeping k h = record { call_keeps = λ f vs s. leaves_if s (k.call f vs s) (λ v u e. h.by f vs s u v e) }
 
 pub places_stand : DirectPlacesStand
 places_stand t k keeps a d is e r i s u q g = given s u ((meaning t k a).place r i s) q (λ q u. StandsAt t (root_of a) d u q) ((both t k (keeping k keeps) a d is e).place r i s) g

@@ -5,8 +5,8 @@ use Rattle.c_store.specs.declared.value.Value.{Value}
 use Rattle.c_store.specs.declared.value.Fault.{Fault}
 use Rattle.c_meaning.specs.State.{Bound, Call, State, found_in, found_within, instance_of, or_else}
 use Rattle.c_meaning.specs.Results.{Got, Gives, Stops, then_do, turn_of, turn, settled, present, needed}
-use Rattle.flow_elements.specs.Standing.{HasSameNames}
-use Rattle.flow_elements.proofs.Steps.{Leaves, names_follow}
+use Rattle.flow_names.specs.Keeping.{HasSameNames}
+use Rattle.flow_names.proofs.Steps.{Leaves, names_follow}
 
 abbrev pub Given : {A : Type 0} → State → Got A → (A → State → Type 0) → Type 0
 Given s (Gives a u) Q = HasSameNames s u × Q a u
@@ -83,10 +83,3 @@ given_if s u r a Q h e = subst (λ z. Given s z Q) e h
 -- of a result that is known
 pub known : {A : Type 0} (s u : State) (r : Got A) (a : A) (Q : A → State → Type 0) → Yields s r Q → r ≡ Gives a u → HasSameNames s u × Q a u
 known s u r a Q h e = given_if s u r a Q h.by e
-
-left_if : {A : Type 0} (s : State) (r : Got A) → ((a : A) (u : State) → r ≡ Gives a u → HasSameNames s u) → Leaves HasSameNames s r
-left_if s (Gives a u) f = record { holds = f a u refl }
-left_if s (Stops why u) f = record { holds = tt }
-
-pub leaves_if : {A : Type 0} (s : State) (r : Got A) → ((a : A) (u : State) → r ≡ Gives a u → HasSameNames s u) → Leaves HasSameNames s r
-leaves_if s r f = left_if s r f

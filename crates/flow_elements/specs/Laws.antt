@@ -13,13 +13,9 @@ use Rattle.c_meaning.specs.Results.{Gives}
 use Rattle.c_meaning.specs.Firsts.{First}
 use Rattle.c_meaning.specs.Knot.{Knot}
 use Rattle.c_meaning.specs.Expressions.{meaning}
-use Rattle.c_meaning.specs.Calls.{Source, calls}
+use Rattle.flow_names.specs.Keeping.{HasSameNames, KeepsNames}
 use Rattle.flow_kinds.specs.Kinded.{kind_of, IsKinded}
-use Rattle.flow_elements.specs.Standing.{root_of, HasSameNames, KeepsNames, StandsAt, BeginsAt}
-
--- the calls of a program keep names
-abbrev pub CallsKeepNames : Type 0
-CallsKeepNames = (P : Source) (i : First) → KeepsNames (calls P i)
+use Rattle.flow_elements.specs.Standing.{root_of, StandsAt, BeginsAt}
 
 -- wherever the place is found
 abbrev pub DirectPlacesStand : Type 0

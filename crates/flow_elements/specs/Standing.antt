@@ -1,17 +1,14 @@
 -- Where the place of a direct expression is: at that part of its variable's instance.
-use Rattle.std.specs.Prelude.{◌≡◌, ◌<◌, ℕ, List, [], Option, Some, if◌then◌else◌}
+use Rattle.std.specs.Prelude.{◌≡◌, ◌<◌, ℕ, [], Some, if◌then◌else◌}
 use Rattle.c_syntax.specs.declared.text.Text.{Text}
 use Rattle.c_syntax.specs.Shape.{TypeOf, array, name, NodeShape, node, ExprShape, leaf, paren, suffix, index, field}
-use Rattle.c_store.specs.declared.value.Value.{Value}
 use Rattle.c_store.specs.declared.value.Pointer.{Pointer}
 use Rattle.c_store.specs.Cells.{cell_of}
 use Rattle.c_tables.specs.Tables.{TablesShape}
 use Rattle.c_walk.specs.Items.{Direct}
 use Rattle.c_walk.specs.Places.{has_array}
 use Rattle.c_meaning.specs.State.{State, instance_of}
-use Rattle.c_meaning.specs.Results.{Gives}
 use Rattle.c_meaning.specs.Layout.{cells, variable_kind}
-use Rattle.c_meaning.specs.Knot.{Knot}
 use Rattle.flow_elements.specs.Parts.{IsPart}
 
 -- ---- names
@@ -27,15 +24,6 @@ abbrev mutual
   form_root (suffix a (field h x q)) = root_of a
   form_root (suffix a (index b)) = if has_array a then root_of a else root_of b
   form_root f = []
-
--- the active calls and their scopes are as they were, and so are the variables of file scope
-pub record HasSameNames (s u : State) : Type 0 where
-  pub calls : u.calls ≡ s.calls
-  pub file : u.file ≡ s.file
-
--- behind each call
-pub record KeepsNames (k : Knot) : Type 0 where
-  pub by : (f : ℕ) (vs : List Value) (s u : State) (v : Option Value) → k.call f vs s ≡ Gives v u → HasSameNames s u
 
 -- ---- places
 

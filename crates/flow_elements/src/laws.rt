@@ -1,13 +1,7 @@
 //! The laws, as contracts.
 
 ghost use Rattle.flow_elements.specs.Names.{PartsHaveNames};
-ghost use Rattle.flow_elements.specs.Laws.{CallsKeepNames, DirectPlacesStand, DirectArraysBegin};
-
-/// What names stand for is the same behind each call of a program.
-#[tactic(auto, using(crate::proofs::Names::calls_keep_names))]
-pub fn calls_keep_names()
-    ensures { CallsKeepNames }
-{}
+ghost use Rattle.flow_elements.specs.Laws.{DirectPlacesStand, DirectArraysBegin};
 
 /// The place of a variable, an element or a field, and of elements and fields of these, is at that part of the instance for which the variable stands.
 pub fn direct_places_stand()

@@ -26,7 +26,7 @@ use Rattle.c_meaning.specs.Builtins.{next_byte, put_byte, exits, built_in}
 use Rattle.c_meaning.specs.Expressions.{gives, number_value, literal_value, noted_value, written, stepped_from}
 use Rattle.c_meaning.specs.Declarations.{new_instance, make, name_marks, filled, filled_whole, scalar_written}
 use Rattle.c_meaning.specs.Lasting.{Lasted}
-use Rattle.flow_elements.specs.Standing.{HasSameNames}
+use Rattle.flow_names.specs.Keeping.{HasSameNames}
 
 -- nothing is said of a run that stops
 abbrev pub Leaves : (State → State → Type 0) → {A : Type 0} → State → Got A → Type 0

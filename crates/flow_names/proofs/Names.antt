@@ -23,10 +23,9 @@ use Rattle.c_meaning.specs.Expressions.{meaning, tested, log_block}
 use Rattle.c_meaning.specs.Declarations.{bind, next_variable, scalar_written, one_value, initialised, bound_variable, made_variable, declared_variable, declared_name, declared_names, declared_decl, declared_all}
 use Rattle.c_meaning.specs.Statements.{Entry, here, ended_all, scope_opened, scope_closed, out_of_switch, after_one, discarded, step_flow, after_body, loop_test, case_number, chosen_entry, flow, form_flow, compound_flow, items_flow, loop_turn, is_reached, passed, while_loop, do_loop}
 use Rattle.c_meaning.specs.Calls.{left, Source, Routine, routine, given_variable, given, given_params, given_all, activated, past_signature, body_flow, result_in, returned, called_found, knot, calls}
-use Rattle.flow_elements.specs.Standing.{HasSameNames}
-use Rattle.flow_elements.specs.Laws.{CallsKeepNames}
-use Rattle.flow_elements.proofs.Steps.{state_in, Leaves, Follows, stays, same, at_rest, behind_step, then_kept, if_kept, turn_kept, turns_kept, present_kept, needed_kept, logs_kept, block_kept, outcome_kept, made_kept, begun_kept, make_kept, whole_kept, scalar_kept}
-use Rattle.flow_elements.proofs.Nodes.{Keeping, node_steady, tested_kept, arm_kept}
+use Rattle.flow_names.specs.Keeping.{HasSameNames, KeepsNames, CallsKeepNames, ExpressionsKeepNames}
+use Rattle.flow_names.proofs.Steps.{names_follow, state_in, Leaves, Follows, stays, same, at_rest, behind_step, then_kept, if_kept, turn_kept, turns_kept, present_kept, needed_kept, logs_kept, block_kept, outcome_kept, made_kept, begun_kept, make_kept, whole_kept, scalar_kept}
+use Rattle.flow_names.proofs.Nodes.{Keeping, node_steady, tested_kept, arm_kept}
 
 -- ---- inside a call
 
@@ -259,9 +258,23 @@ module _ (P : Source) (i : First) where
   unfolding calls
   calls_keep = record { call_keeps = λ f vs s. (knot_keeps (suc s.turns)).call_keeps f vs s; again_keeps = λ lp s. (knot_keeps (suc s.turns)).again_keeps lp s }
 
-given_names : (s u : State) (r : Got (Option Value)) (v : Option Value) → Leaves HasSameNames s r → r ≡ Gives v u → HasSameNames s u
-given_names s u (Gives w t) v h e = let same : t ≡ u = ap (λ (r : Got (Option Value)). state_in r) e in subst (HasSameNames s) same h.holds
-given_names s u (Stops why t) v h e = cc
+-- ---- the laws
+
+pub given_names : {A : Type 0} (s u : State) (r : Got A) (a : A) → Leaves HasSameNames s r → r ≡ Gives a u → HasSameNames s u
+given_names s u (Gives b t) a h e = let same : t ≡ u = ap (λ r. state_in r) e in subst (HasSameNames s) same h.holds
+given_names s u (Stops why t) a h e = cc
+
+left_if : {A : Type 0} (s : State) (r : Got A) → ((a : A) (u : State) → r ≡ Gives a u → HasSameNames s u) → Leaves HasSameNames s r
+left_if s (Gives a u) f = record { holds = f a u refl }
+left_if s (Stops why u) f = record { holds = tt }
+
+pub keeping : (k : Knot) → KeepsNames k → Keeping HasSameNames k
+keeping k h = record { call_keeps = λ f vs s. left_if s (k.call f vs s) (λ v u e. h.by f vs s u v e) }
 
 pub calls_keep_names : CallsKeepNames
 calls_keep_names P i = record { by = λ f vs s u v e. given_names s u _ v ((calls_keep P i).call_keeps f vs s) e }
+
+pub expressions_keep_names : ExpressionsKeepNames
+expressions_keep_names t k keeps a =
+    let h = node_steady HasSameNames names_follow t k (keeping k keeps) a in
+    (λ i s u v e. given_names s u _ v (h.value_steady i s) e, λ r i s u q e. given_names s u _ q (h.place_steady r i s) e)

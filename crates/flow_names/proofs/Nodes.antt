@@ -25,8 +25,8 @@ use Rattle.c_meaning.specs.Constants.{type_at, kind_noted}
 use Rattle.c_meaning.specs.Knot.{Knot}
 use Rattle.c_meaning.specs.Builtins.{called, called_row, params_of}
 use Rattle.c_meaning.specs.Expressions.{Meaning, as_value, as_place, gives, operand, name_meaning, leaf_meaning, cast_value, tested, arm, last_test, assigned, step_value, meaning, form_meaning, arguments}
-use Rattle.flow_elements.proofs.Steps.{Leaves, Follows, stays, same, at_rest, behind_step, then_kept, if_kept, turn_kept, settled_kept, needed_kept, logs_kept, block_kept, test_kept, loaded_kept, fetched_kept, variable_kept, field_kept, written_kept, stepped_kept, number_kept, literal_kept, noted_kept, built_in_kept}
-use Rattle.flow_elements.proofs.Copied.{copied_kept}
+use Rattle.flow_names.proofs.Steps.{Leaves, Follows, stays, same, at_rest, behind_step, then_kept, if_kept, turn_kept, settled_kept, needed_kept, logs_kept, block_kept, test_kept, loaded_kept, fetched_kept, variable_kept, field_kept, written_kept, stepped_kept, number_kept, literal_kept, noted_kept, built_in_kept}
+use Rattle.flow_names.proofs.Copied.{copied_kept}
 
 -- an expression leaves it so, as a value and as a place
 pub record Steady (R : State → State → Type 0) (m : Meaning) : Type 0 where

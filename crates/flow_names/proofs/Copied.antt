@@ -10,7 +10,7 @@ use Rattle.c_meaning.specs.State.{Act, tells, repeats, State}
 use Rattle.c_meaning.specs.Results.{Got, Gives, then_do, untyped, settled}
 use Rattle.c_meaning.specs.Firsts.{First, noted_use, noted_def}
 use Rattle.c_meaning.specs.Places.{next_cell, log_use, log_def, first_of, cells_used, cells_defined, alike_in_size, copied_cells, copied}
-use Rattle.flow_elements.proofs.Steps.{Leaves, Follows, stays, same, at_rest, behind_step, then_kept, if_kept, turns_kept, settled_kept, store_kept, logs_kept, use_kept, def_kept}
+use Rattle.flow_names.proofs.Steps.{Leaves, Follows, stays, same, at_rest, behind_step, then_kept, if_kept, turns_kept, settled_kept, store_kept, logs_kept, use_kept, def_kept}
 
 -- ---- parts of a copy, the last one first
 
