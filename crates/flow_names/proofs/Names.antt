@@ -271,6 +271,10 @@ left_if s (Stops why u) f = record { holds = tt }
 pub keeping : (k : Knot) → KeepsNames k → Keeping HasSameNames k
 keeping k h = record { call_keeps = λ f vs s. left_if s (k.call f vs s) (λ v u e. h.by f vs s u v e) }
 
+-- of a program, within so many turns
+pub knots_keep_names : (P : Source) (i : First) (n : ℕ) → KeepsNames (knot P i n)
+knots_keep_names P i n = record { by = λ f vs s u v e. given_names s u _ v ((knot_keeps P i n).call_keeps f vs s) e }
+
 pub calls_keep_names : CallsKeepNames
 calls_keep_names P i = record { by = λ f vs s u v e. given_names s u _ v ((calls_keep P i).call_keeps f vs s) e }
 
