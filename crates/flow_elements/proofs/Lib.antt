@@ -2,3 +2,4 @@ mod Yields
 mod Stepping
 pub mod Layers
 pub mod Places
+mod Worked
