@@ -1,5 +1,5 @@
 -- Each site of an expression that is a scalar local variable by its own name stands where the walk counts it.
-use Rattle.std.proofs.Common.{ℕ, suc, ◌≤◌, ◌<◌, ◌++◌, ◌≡◌, List, [], ◌∷◌, refl, sym, subst, ap, ◌∙◌, append_assoc, arith, Option, Some, None, Bool, true, false}
+use Rattle.std.proofs.Common.{inl, ℕ, suc, ◌≤◌, ◌<◌, ◌++◌, ◌≡◌, List, [], ◌∷◌, refl, sym, subst, ap, ◌∙◌, append_assoc, arith, Option, Some, None, Bool, true, false}
 use Rattle.std.specs.Prelude.{not, ◌&&◌, if◌then◌else◌}
 use Rattle.std.proofs.lemmas.Bool.{true≢false, and_parts}
 use Rattle.c_base.specs.declared.place.Pos.{Pos}
@@ -11,7 +11,7 @@ use Rattle.c_walk.specs.declared.around.Around.{Around}
 use Rattle.c_walk.specs.declared.around.Taken.{Taken}
 use Rattle.c_walk.specs.declared.around.Taken.TheVariants.{Read, Written, Changed, Copied, Addressed}
 use Rattle.c_walk.specs.Items.{Direct, Item, def, used}
-use Rattle.c_walk.specs.Places.{is_place, has_scalar, has_structure, has_array, holds_structure, named, with_part, direct, direct_form}
+use Rattle.c_walk.specs.Places.{is_place, has_scalar, has_structure, has_array, named, with_part, direct, direct_form}
 use Rattle.c_walk.specs.Walked.{Walked, with_item, is_used, is_written, operand_taken, right_taken, with_block, pos_of, inside_test, with_test, with_use, with_sites, with_site}
 use Rattle.c_walk.specs.Counted.{def_count, next_def, next_use}
 use Rattle.c_walk.specs.Walking.{walk_node, walk_form, walk_test, walk_arm, walk_nodes, walk_maybe, walk_maybe_test, walk_step}
@@ -23,9 +23,9 @@ use Rattle.c_meaning.specs.Calls.{Source}
 use Rattle.flow_walks.specs.Expressions.{holds_place, form_holds_place, holds_scalar, form_holds_scalar}
 use Rattle.flow_calls.specs.Orderly.{is_copied, form_is_copied, IsOrderly, HasOrder, AreOrderly, IsOrderlyMaybe}
 use Rattle.flow_misses.specs.Placing.{Local, Sites}
-use Rattle.flow_places.specs.Sited.{form_names, IsUse, IsDefinition, IsReadSite, IsUsedSite, IsDefinedSite, IsSited, IsFormSited, IsTestSited, IsArmSited, AreSited, IsMaybeSited, IsLoopTestSited, IsStepSited}
+use Rattle.flow_places.specs.Sited.{variable_named, form_names, IsUse, IsDefinition, IsReadSite, IsSited, IsFormSited, IsTestSited, IsArmSited, AreSited, IsMaybeSited, IsLoopTestSited, IsStepSited}
 use Rattle.flow_locals.specs.Locals.{def_at, use_at, outer_variables, is_among, is_plain, has_scalar_kind, is_local, site_of, local_of, locals_of}
-use Rattle.flow_locals.proofs.More.{More, on_same, on_further, defs_both, more_defs, use_on, site_on, test_on, block_on, node_on, form_on, test_node_on, arm_on, nodes_on}
+use Rattle.flow_locals.proofs.More.{More, on_further, defs_both, more_defs, use_on, site_on, test_on, block_on, node_on, form_on, test_node_on, arm_on, nodes_on}
 use Rattle.flow_locals.proofs.Found.{def_there, use_there, use_past, plain_form}
 
 if_first : (b x : Bool) → (if b then x else false) ≡ true → b ≡ true
@@ -167,13 +167,13 @@ module _ (P : Source) (F : List Bound) where
       pick true u v e m = m
       pick false u v e m = absurd (true≢false (sym e))
 
-      read_by : (c : Around) (r : Taken) (p : Pos) (n : NoteShape) (f : ExprShape) (w : Walked) → More (with_site c r p n f w) end → IsReadSite S F r n f w
+      read_by : (c : Around) (r : Taken) (p : Pos) (n : NoteShape) (f : ExprShape) (w : Walked) → More (with_site c r p n f w) end → IsReadSite S F P.tables r p n f w
       read_by c Read p n f w m = λ h.
-          use_item c p (direct_form n f) w (has_scalar n) (form_names n f) (if_second (is_place f) (has_scalar n) h) (λ d e k. plain_form n f d e k)
-          (pick (is_place f) (with_sites c Read p (direct_form n f) (is_used Read n) w) w (if_first (is_place f) (has_scalar n) h) m)
+          inl (use_item c p (direct_form n f) w (has_scalar n) (form_names n f) (if_second (is_place f) (has_scalar n) h) (λ d e k. plain_form n f d e k)
+          (pick (is_place f) (with_sites c Read p (direct_form n f) (is_used Read n) w) w (if_first (is_place f) (has_scalar n) h) m))
       read_by c Copied p n f w m = λ h.
-          use_item c p (direct_form n f) w (has_structure n) (form_names n f) (if_second (is_place f) (has_structure n) h) (λ d e k. plain_form n f d e k)
-          (pick (is_place f) (with_sites c Copied p (direct_form n f) (is_used Copied n) w) w (if_first (is_place f) (has_structure n) h) m)
+          inl (use_item c p (direct_form n f) w (has_structure n) (form_names n f) (if_second (is_place f) (has_structure n) h) (λ d e k. plain_form n f d e k)
+          (pick (is_place f) (with_sites c Copied p (direct_form n f) (is_used Copied n) w) w (if_first (is_place f) (has_structure n) h) m))
       read_by c Written p n f w m = λ h. absurd (true≢false (sym h))
       read_by c Changed p n f w m = λ h. absurd (true≢false (sym h))
       read_by c Addressed p n f w m = λ h. absurd (true≢false (sym h))
@@ -202,7 +202,7 @@ module _ (P : Source) (F : List Bound) where
           subst (IsDefinition S F (form_names n f)) (sym (def_value c.function p d w (on_further (with_item (def p c.function d) w) v end (def_first c r p d (is_used r n) w k) (sites_in c r p n f w e m)) lo)) (def_told (form_names n f) d (λ x h g. plain_form n f x h g))
 
       mutual
-        def_site : (c : Around) (r : Taken) (a : NodeShape) (w : Walked) → is_written r ≡ true → IsOrderly a → holds_place a ≡ true → More start w → More (walk_node c r a w) end → IsDefinedSite S F a w
+        def_site : (c : Around) (r : Taken) (a : NodeShape) (w : Walked) → is_written r ≡ true → IsOrderly a → holds_place a ≡ true → More start w → More (walk_node c r a w) end → IsDefinition S F (variable_named a) (S.defined (next_def w))
         def_site c r (node p o n f) w k g e lo m = form_def c r p n f w k g e lo m
 
         form_def : (c : Around) (r : Taken) (p : Pos) (n : NoteShape) (f : ExprShape) (w : Walked) → is_written r ≡ true → HasOrder f → form_holds_place f ≡ true → More start w → More (walk_form c r f (with_site c r p n f w)) end → IsDefinition S F (form_names n f) (S.defined (next_def w))
@@ -225,7 +225,7 @@ module _ (P : Source) (F : List Bound) where
           (use_item c p d v (has_scalar n) (form_names n f) (if_second (is_place f) (has_scalar n) e) (λ x h g. plain_form n f x h g) (sites_in c Changed p n f w (if_first (is_place f) (has_scalar n) e) m))
 
       mutual
-        use_site : (c : Around) (a : NodeShape) (w : Walked) → IsOrderly a → holds_scalar a ≡ true → More (walk_node c Changed a w) end → IsUsedSite S F a w
+        use_site : (c : Around) (a : NodeShape) (w : Walked) → IsOrderly a → holds_scalar a ≡ true → More (walk_node c Changed a w) end → IsUse S F (variable_named a) (S.used (next_use w))
         use_site c (node p o n f) w g e m = form_use c p n f w g e m
 
         form_use : (c : Around) (p : Pos) (n : NoteShape) (f : ExprShape) (w : Walked) → HasOrder f → form_holds_scalar n f ≡ true → More (walk_form c Changed f (with_site c Changed p n f w)) end → IsUse S F (form_names n f) (S.used (next_use w))
@@ -299,10 +299,10 @@ module _ (P : Source) (F : List Bound) where
       operand_orderly front.Not a g = g
 
       mutual
-        pub sited : (c : Around) (r : Taken) (a : NodeShape) (w : Walked) → IsOrderly a → More start w → More (walk_node c r a w) end → IsSited S F c r a w
+        pub sited : (c : Around) (r : Taken) (a : NodeShape) (w : Walked) → IsOrderly a → More start w → More (walk_node c r a w) end → IsSited S F P.tables c r a w
         sited c r (node p o n f) w g lo m = form_sited c r p n f w g lo m
 
-        form_sited : (c : Around) (r : Taken) (p : Pos) (n : NoteShape) (f : ExprShape) (w : Walked) → HasOrder f → More start w → More (walk_form c r f (with_site c r p n f w)) end → IsFormSited S F c r p n f w
+        form_sited : (c : Around) (r : Taken) (p : Pos) (n : NoteShape) (f : ExprShape) (w : Walked) → HasOrder f → More start w → More (walk_form c r f (with_site c r p n f w)) end → IsFormSited S F P.tables c r p n f w
         form_sited c r p n (leaf l) w g lo m = read_by c r p n (leaf l) w m
         form_sited c r p n (paren a) w g lo m = sited c r a w g lo m
         form_sited c r p n (call x args) w g lo m = all_sited c args w g lo m
@@ -311,7 +311,7 @@ module _ (P : Source) (F : List Bound) where
               read_by c r p n (prefix (unary u) a) w (on_further v (walk_node c (operand_taken u) a v) end (node_on c (operand_taken u) a v) m),
               sited c (operand_taken u) a v (operand_orderly u a g) (on_further start w v lo (site_on c r p n (prefix (unary u) a) w)) m,
             )
-        form_sited c r p n (prefix (before u) a) w g lo m = (sited c Changed a w g.0 lo m, use_site c a w g.0 g.1 m, def_site c Changed a w refl g.0 (scalar_place a g.1) lo m)
+        form_sited c r p n (prefix (before u) a) w g lo m = (sited c Changed a w g.0 lo m, inl (use_site c a w g.0 g.1 m), inl (def_site c Changed a w refl g.0 (scalar_place a g.1) lo m))
         form_sited c r p n (prefix size_of a) w g lo m = tt
         form_sited c r p n (size_of_type y) w g lo m = tt
         form_sited c r p n (cast y a) w g lo m = sited c Read a w g lo m
@@ -330,7 +330,7 @@ module _ (P : Source) (F : List Bound) where
         form_sited c r p n (suffix a (field arrow x q)) w g lo m =
             let v = with_site c r p n (suffix a (field arrow x q)) w in
             (read_by c r p n (suffix a (field arrow x q)) w (on_further v (walk_node c Read a v) end (node_on c Read a v) m), sited c Read a v g (on_further start w v lo (site_on c r p n (suffix a (field arrow x q)) w)) m)
-        form_sited c r p n (suffix a (behind u)) w g lo m = (sited c Changed a w g.0 lo m, use_site c a w g.0 g.1 m, def_site c Changed a w refl g.0 (scalar_place a g.1) lo m)
+        form_sited c r p n (suffix a (behind u)) w g lo m = (sited c Changed a w g.0 lo m, inl (use_site c a w g.0 g.1 m), inl (def_site c Changed a w refl g.0 (scalar_place a g.1) lo m))
         form_sited c r p n (two (plain u) a b) w g lo m =
             let v = walk_node c Read a w in
             (sited c Read a w g.0 lo (on_further v (walk_node c Read b v) end (node_on c Read b v) m), sited c Read b v g.1 (on_further start w v lo (node_on c Read a w)) m)
@@ -352,7 +352,7 @@ module _ (P : Source) (F : List Bound) where
             let z = right_taken None a in
             let back = on_further v (walk_node c z b v) end (node_on c z b v) m in (
               sited c Written a w g.0 lo back,
-              def_site c Written a w refl g.0 g.1 lo back,
+              inl (def_site c Written a w refl g.0 g.1 lo back),
               sited c z b v g.2 (on_further start w v lo (node_on c Written a w)) m,
               λ e. (copied_use c b v (g.3 e).1 (subst (λ q. More (walk_node c (if q then Copied else Read) b v) end) e m), copied_def c a w (g.3 e).0 lo back),
             )
@@ -360,8 +360,8 @@ module _ (P : Source) (F : List Bound) where
             let v = walk_node c Changed a w in
             let back = on_further v (walk_node c Read b v) end (node_on c Read b v) m in (
               sited c Changed a w g.0 lo back,
-              use_site c a w g.0 g.1 back,
-              def_site c Changed a w refl g.0 (scalar_place a g.1) lo back,
+              inl (use_site c a w g.0 g.1 back),
+              inl (def_site c Changed a w refl g.0 (scalar_place a g.1) lo back),
               sited c Read b v g.2 (on_further start w v lo (node_on c Changed a w)) m,
             )
         form_sited c r p n (choose a b d) w g lo m =
@@ -372,26 +372,26 @@ module _ (P : Source) (F : List Bound) where
             (test_sited c a w g.0 lo (on_further u v end (arm_on c b u) back), arm_sited c b u g.1 on back, arm_sited c d v g.2 (on_further start u v on (arm_on c b u)) m)
         form_sited c r p n (probe u a) w g lo m = g
 
-        pub test_sited : (c : Around) (a : NodeShape) (w : Walked) → IsOrderly a → More start w → More (walk_test c a w) end → IsTestSited S F c a w
+        pub test_sited : (c : Around) (a : NodeShape) (w : Walked) → IsOrderly a → More start w → More (walk_test c a w) end → IsTestSited S F P.tables c a w
         test_sited c (node p o n f) w g lo m = form_sited (inside_test c f w) Read p n f (with_test p f w) g (on_further start w (with_test p f w) lo (test_on p f w)) m
 
-        pub arm_sited : (c : Around) (a : NodeShape) (w : Walked) → IsOrderly a → More start w → More (walk_arm c a w) end → IsArmSited S F c a w
+        pub arm_sited : (c : Around) (a : NodeShape) (w : Walked) → IsOrderly a → More start w → More (walk_arm c a w) end → IsArmSited S F P.tables c a w
         arm_sited c (node p o n f) w g lo m = form_sited c Read p n f (with_block p w) g (on_further start w (with_block p w) lo (block_on p w)) m
 
-        all_sited : (c : Around) (args : NodeShapes) (w : Walked) → AreOrderly args → More start w → More (walk_nodes c args w) end → AreSited S F c args w
+        all_sited : (c : Around) (args : NodeShapes) (w : Walked) → AreOrderly args → More start w → More (walk_nodes c args w) end → AreSited S F P.tables c args w
         all_sited c no_nodes w g lo m = tt
         all_sited c (more_nodes a rest) w g lo m =
             let v = walk_node c Read a w in
             (sited c Read a w g.0 lo (on_further v (walk_nodes c rest v) end (nodes_on c rest v) m), all_sited c rest v g.1 (on_further start w v lo (node_on c Read a w)) m)
 
-      pub maybe_sited : (c : Around) (e : MaybeNode) (w : Walked) → IsOrderlyMaybe e → More start w → More (walk_maybe c e w) end → IsMaybeSited S F c e w
+      pub maybe_sited : (c : Around) (e : MaybeNode) (w : Walked) → IsOrderlyMaybe e → More start w → More (walk_maybe c e w) end → IsMaybeSited S F P.tables c e w
       maybe_sited c no_node w g lo m = tt
       maybe_sited c (one_node a) w g lo m = sited c Read a w g lo m
 
-      pub loop_sited : (c : Around) (e : MaybeNode) (w : Walked) → IsOrderlyMaybe e → More start w → More (walk_maybe_test c e w) end → IsLoopTestSited S F c e w
+      pub loop_sited : (c : Around) (e : MaybeNode) (w : Walked) → IsOrderlyMaybe e → More start w → More (walk_maybe_test c e w) end → IsLoopTestSited S F P.tables c e w
       loop_sited c no_node w g lo m = tt
       loop_sited c (one_node a) w g lo m = test_sited c a (with_block (pos_of a) w) g (on_further start w (with_block (pos_of a) w) lo (block_on (pos_of a) w)) m
 
-      pub step_sited : (c : Around) (e : MaybeNode) (w : Walked) → IsOrderlyMaybe e → More start w → More (walk_step c e w) end → IsStepSited S F c e w
+      pub step_sited : (c : Around) (e : MaybeNode) (w : Walked) → IsOrderlyMaybe e → More start w → More (walk_step c e w) end → IsStepSited S F P.tables c e w
       step_sited c no_node w g lo m = tt
       step_sited c (one_node a) w g lo m = arm_sited c a w g lo m

@@ -1,5 +1,5 @@
 -- A copy of a structure, none of whose two sites is told of, is in place.
-use Rattle.std.proofs.Common.{◌≡◌, ℕ, zero, suc, List, refl, sym, ◌∙◌, Option, None, subst, arith}
+use Rattle.std.proofs.Common.{◌≡◌, ℕ, zero, suc, List, refl, sym, ◌∙◌, Option, None, subst}
 use Rattle.c_events.specs.declared.events.Event.TheVariants as event
 use Rattle.c_syntax.specs.declared.text.Text.{Text}
 use Rattle.c_store.specs.declared.value.Value.{Value}
@@ -15,7 +15,7 @@ use Rattle.c_meaning.specs.Results.{Got, Gives, then_do, untyped, settled}
 use Rattle.c_meaning.specs.Firsts.{First, heard, cell_at, noted_use, noted_def}
 use Rattle.c_meaning.specs.Places.{next_cell, log_use, log_def, first_of, cells_used, cells_defined, alike_in_size, copied_cells, copied}
 use Rattle.flow_misses.specs.Placing.{Sites, IsRepeated}
-use Rattle.flow_places.proofs.Good.{repeats_quiet, Still}
+use Rattle.flow_places.proofs.Good.{repeats_quiet}
 use Rattle.flow_places.proofs.Safe.{Any, Safe, safe_gives, safe_stops, safe_if, safe_settled, safe_then, safe_did, safe_logs, ForUse, ForDef, safe_use, safe_def}
 use Rattle.flow_places.proofs.Parts.{SameCount, if_count, wrote_safe, turns_safe, use_still, def_still}
 use Rattle.c_store.specs.declared.value.Fault.TheVariants.{WriteLiteral}
@@ -74,6 +74,6 @@ module _ (S : Sites) (F : List Bound) where
       (turns_safe S F n r.size s (reaching ds us (heard c w) (heard c v) q r) Any (λ t e.
       safe_then S F n t (settled (reach_of t.store r) t) (using ds us (heard c w) (heard c v) q r) Any Any (safe_settled S F n (reach_of t.store r) t Any (λ a e. tt)) (λ done t e k.
       cells_use n us c v (first_of r) r.size t (copying ds (heard c w) q r) Any hu (λ t e.
-      wrote_safe S F n (copy_of t.store r q) t (telling ds (heard c w) q) Any (copy_in_count t.store (element_of t.store.live r) r (element_of t.store.live q) q S F) (λ m.
+      wrote_safe S F n (copy_of t.store r q) t (telling ds (heard c w) q) Any (copy_in_count t.store (element_of t.store.live r) r (element_of t.store.live q) q S F) (λ m e.
       cells_define n ds c w (first_of q) q.size (record t { store = m }) (λ s. Gives None s) Any hd (λ t e. safe_gives S F n t None Any tt))))))
       (safe_stops S F n _ s Any)

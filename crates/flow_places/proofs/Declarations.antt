@@ -1,8 +1,6 @@
 -- What declarations keep: each variable that is declared stands for its new instance, in the innermost scope alone.
 use Rattle.std.proofs.Common.{ℕ, zero, suc, ◌+◌, ◌-◌, ◌≤◌, ◌<◌, List, [], ◌∷◌, ◌++◌, ◌≡◌, inr, refl, sym, subst, ap, ◌∙◌, append-nil, arith, length, Option, Some, None, Result, Ok, Err, Bool, true, false}
-use Rattle.std.specs.Prelude.{nat_lt, nat_le, replicate, Contains, if◌then◌else◌}
-use Rattle.std.proofs.lemmas.Bool.{and_parts}
-use Rattle.std.proofs.lemmas.Bool.Decides.{nat_tests}
+use Rattle.std.specs.Prelude.{nat_le, replicate, Contains, if◌then◌else◌}
 use Rattle.c_events.specs.declared.events.Event.{Event}
 use Rattle.c_events.specs.declared.events.Event.TheVariants as event
 use Rattle.c_syntax.specs.declared.text.Text.{Text}
@@ -13,7 +11,7 @@ use Rattle.c_store.specs.declared.value.Value.{Value}
 use Rattle.c_store.specs.declared.value.Pointer.{Pointer}
 use Rattle.c_store.specs.declared.value.Fault.{Fault}
 use Rattle.c_store.specs.declared.value.MakeErr.TheVariants.{Room}
-use Rattle.c_store.specs.Cells.{Cells, Slot, find, element_in, is_inside, write_of, write_in, cell_count}
+use Rattle.c_store.specs.Cells.{Cells, write_of, cell_count}
 use Rattle.c_walk.specs.declared.around.Around.{Around}
 use Rattle.c_walk.specs.declared.around.Taken.TheVariants.{Read}
 use Rattle.c_walk.specs.Walked.{Walked}
@@ -46,7 +44,8 @@ use Rattle.flow_places.specs.Declared.{AreNamed, DefinesBy, IsInitial, IsSitedVa
 use Rattle.flow_places.proofs.Bound.{Below, below_more, made_below, made_tail, found_is, found_made}
 use Rattle.flow_places.proofs.Good.{IsQuiet, IsOther, def_quiet, repeats_quiet, Good, good_act, good_bound, with_instance, makes_it, makes_other, Still, good_still}
 use Rattle.flow_places.proofs.Safe.{Any, GoodAt, Safe, Logging, at_from, safe_gives, safe_then, safe_needed, ForDef}
-use Rattle.flow_places.proofs.Parts.{SameCount, write_count, stored_safe}
+use Rattle.flow_places.proofs.Parts.{written_within, SameCount, write_count, stored_safe}
+use Rattle.flow_names.specs.Keeping.{KeepsNames}
 use Rattle.flow_places.proofs.Nodes.{Calling, value_safe}
 
 -- ---- probes that log a definition change the log alone
@@ -59,22 +58,6 @@ module _ {B : Type 0} (goal : Got B → Type 0) (q : Pointer) (v : Value) (go : 
   pub logs_then : (xs : List Text) (s : State) → ((l : List Event) → goal (go v (record s { log = l }))) → ((why : Stop) (l : List Event) → goal (Stops why (record s { log = l }))) → goal (then_do (logs (log_def q) xs s (λ s. Gives v s)) go)
   logs_then [] s f g = f s.log
   logs_then (x ∷ xs) s f g = one_then (probe_number_of x) s (λ s. logs (log_def q) xs s (λ s. Gives v s)) (λ m. logs_then xs (log_def q m s) f g) g
-
--- ---- a cell that is written is one of its object
-
-inside_of : (b : Bool) (c m : Cells) (slot : Slot) (why : Fault) (p : Pointer) (v : Value) → write_in c (if b then Ok slot else Err why) p v ≡ Ok m → b ≡ true
-inside_of true c m slot why p v e = refl
-inside_of false c m slot why p v e = cc
-
-below_length : (p : Pointer) (n : ℕ) → is_inside p n ≡ true → p.index < p.length
-below_length p n e = let h = (and_parts (nat_lt p.index p.length) _ e).0 in grind (arith, nat_tests)
-
-element_inside : (o : Option Slot) (c m : Cells) (p : Pointer) (v : Value) → write_in c (element_in o p) p v ≡ Ok m → p.index < p.length
-element_inside None c m p v e = cc
-element_inside (Some slot) c m p v e = below_length p (length slot.cells) (inside_of (is_inside p (length slot.cells)) c m slot _ p v e)
-
-written_inside : (c m : Cells) (p : Pointer) (v : Value) → write_of c p v ≡ Ok m → p.index < p.length
-written_inside c m p v e = element_inside (find p.instance c.live) c m p v e
 
 module _ (S : Sites) (F : List Bound) where
   -- ---- the items of a block: only the innermost scope grows
@@ -212,7 +195,7 @@ module _ (S : Sites) (F : List Bound) where
         let t : State = record s { store = p } in
         let b = repeats (event.Def (next_def w) (cell_at q)) in
         let gt = good_still S F s t (stored_still s p n) g in
-        let lt = written_inside s.store p q v e in
+        let lt = written_within s.store p q v e in
         let gu = good_act S F t b (repeats_quiet S (event.Def (next_def w) (cell_at q))) (repeated_at t x j m k (next_def w) (S.defined (next_def w)) h found lt ends gt) gt in
         let told = told_end (activation s) b s.deeds ∙ append-nil (readings (own (activation s) s.deeds)) ∙ ends.1 in
         logs_then (λ r. GoodAt S F s r Any) q v (λ v. filled repeats xs (heard c w) (cell_in j m (suc k)) vs) xs (did b t)
@@ -232,7 +215,7 @@ module _ (S : Sites) (F : List Bound) where
         let t : State = record s { store = p } in
         let b = tells (event.Def (next_def w) (cell_at q)) in
         let gt = good_still S F s t (stored_still s p n) g in
-        let lt = written_inside s.store p q v e in
+        let lt = written_within s.store p q v e in
         let gu = good_act S F t b (def_quiet S (next_def w) (cell_at q) (filled_other x m (S.defined (next_def w)) h)) (first_at t x j m k (S.defined (next_def w)) h found lt ends gt) gt in
         logs_then (λ r. GoodAt S F s r Any) q v (λ v. filled repeats xs (heard c w) (cell_in j m (suc k)) vs) xs (did b t)
         (λ l. let u : State = record (did b t) { log = l } in at_from S F s u _ Any refl (further (suc k) vs u (good_still S F (did b t) u (logged_still (did b t) l) gu) found (readings (own (activation s) s.deeds), told_end (activation s) b s.deeds)))
@@ -257,7 +240,7 @@ module _ (S : Sites) (F : List Bound) where
   first_named x j None cs h found = tt
   first_named x j (Some v) cs h found = (h.1, subst (λ (y : ℕ). found_within y cs ≡ Some j) (sym h.0) found, subst (λ (i : ℕ). v.names ≡ S.leaf v.variable i ∷ []) (omega arith) h.2)
 
-  module _ (P : Source) (kn : Knot) where
+  module _ (P : Source) (kn : Knot) (keeps : KeepsNames kn) where
     initial_filled : (x : ℕ) (y : TypeOf) (i : InitShape) (o : Option Local) → ((v : Local) → DefinesBy S P.tables y i v → AreNamed S P.tables y v) → IsInitial S P.tables x y i o → IsFilled x (cells P.tables y) o
     initial_filled x y i None f h = tt
     initial_filled x y i (Some v) f h = (h.0, h.1, f v h.2)
@@ -267,13 +250,13 @@ module _ (S : Sites) (F : List Bound) where
     initial_first x y i (Some v) f h = (h.0, h.1, f v h.2)
 
     scalar_safe : (n x j : ℕ) (name : Option Named) (c : Around) (w : Walked) (v : Value) (s : State) → IsFirst x (S.defined (next_def w)) → found_within x s.calls ≡ Some j → Safe S F n s (scalar_written name (heard c w) j v s) Any
-    scalar_safe n x j name c w v s h found = safe_then S F n s _ _ Any Any (stored_safe S F n (name_marks name) c w (whole j 1) v s (first_named x j (S.defined (next_def w)) s.calls h found)) (λ v t e k. safe_gives S F n t Next Any tt)
+    scalar_safe n x j name c w v s h found = safe_then S F n s _ _ Any Any (stored_safe S F n (name_marks name) c w (whole j 1) v s (λ lt. first_named x j (S.defined (next_def w)) s.calls h found)) (λ v t e k. safe_gives S F n t Next Any tt)
 
-    module _ (calling : Calling S F P kn) where
-      expression_safe : (n x j : ℕ) (y : TypeOf) (name : Option Named) (a : NodeShape) (c : Around) (w : Walked) (s : State) → IsFirst x (S.defined (next_def w)) → IsSited S F c Read a (with_whole_def P.tables c.function name w) → found_within x s.calls ≡ Some j
+    module _ (calling : Calling S F P kn keeps) where
+      expression_safe : (n x j : ℕ) (y : TypeOf) (name : Option Named) (a : NodeShape) (c : Around) (w : Walked) (s : State) → IsFirst x (S.defined (next_def w)) → IsSited S F P.tables c Read a (with_whole_def P.tables c.function name w) → found_within x s.calls ≡ Some j
           → Safe S F n s (then_do (needed ((meaning P.tables kn a).value (heard c (with_whole_def P.tables c.function name w)) s)) (λ v s. scalar_written name (heard c w) j (converted y v) s)) Any
       expression_safe n x j y name a c w s h g found =
-          safe_then S F n s _ _ Any Any (safe_needed S F n s _ (value_safe S F P kn calling c a (with_whole_def P.tables c.function name w) g n s)) (λ v t e k.
+          safe_then S F n s _ _ Any Any (safe_needed S F n s _ (value_safe S F P kn keeps calling c a (with_whole_def P.tables c.function name w) g n s)) (λ v t e k.
           scalar_safe n x j name c w (converted y v) t h (ap (found_within x) e ∙ found))
 
       init_safe : (n x j : ℕ) (y : TypeOf) (name : Option Named) (init : MaybeInit) (c : Around) (w : Walked) (s : State) → IsSitedVariable S F P.tables c name x (Some y) init w → found_within x s.calls ≡ Some j → EndsMade x j s

@@ -27,6 +27,7 @@ use Rattle.flow_places.proofs.Bound.{opened_below, opened_tail}
 use Rattle.flow_places.proofs.Good.{good_opened, good_closed}
 use Rattle.flow_places.proofs.Safe.{Any, GoodAt, Safe, safe_gives, safe_then, safe_turn, safe_if, safe_needed, safe_logs}
 use Rattle.flow_places.proofs.Parts.{block_safe, outcome_safe}
+use Rattle.flow_names.specs.Keeping.{KeepsNames}
 use Rattle.flow_places.proofs.Nodes.{Calling, value_safe, test_safe, block_arm_safe, tested_safe, arm_safe}
 use Rattle.flow_places.proofs.Declarations.{TopAt, Opens, opens_then, opens_safe, decls_open}
 
@@ -38,7 +39,7 @@ ended_count (b ∷ bs) c = ended_count bs (ended c b.instance)
 abbrev pub opened_to : TablesShape → Around → CompoundShape → Walked → ℕ
 opened_to t c (braces p ds items) w = (walk_decls t c ds w).variables
 
-module _ (S : Sites) (F : List Bound) (P : Source) (kn : Knot) where
+module _ (S : Sites) (F : List Bound) (P : Source) (kn : Knot) (keeps : KeepsNames kn) where
   -- ---- scopes
 
   closed_at : (n m : ℕ) (s : State) (r : Got Flow) → TopAt S F m (scope_opened s) r → GoodAt S F s (then_do r (λ f s. Gives f (scope_closed s))) Any
@@ -55,7 +56,7 @@ module _ (S : Sites) (F : List Bound) (P : Source) (kn : Knot) where
 
   -- a loop's further turns
   abbrev pub Turning : Type 0
-  Turning = (n : ℕ) (c : Around) (f : MaybeNode) (v : Walked) (a : StmtShape) (w : Walked) (g : MaybeNode) (u : Walked) → IsLoopTestSited S F c f v → IsSitedPart S F P.tables c a w → IsStepSited S F c g u → n ≤ w.variables → (s : State)
+  Turning = (n : ℕ) (c : Around) (f : MaybeNode) (v : Walked) (a : StmtShape) (w : Walked) (g : MaybeNode) (u : Walked) → IsLoopTestSited S F P.tables c f v → IsSitedPart S F P.tables c a w → IsStepSited S F P.tables c g u → n ≤ w.variables → (s : State)
       → Safe S F n s (kn.again (looping c f v a w g u) s) Any
 
   one_safe : (n : ℕ) (go : State → Got Flow) → ((s : State) → Safe S F n s (go s) Any) → (f : Flow) (s : State) → Safe S F n s (after_one go f s) Any
@@ -73,26 +74,26 @@ module _ (S : Sites) (F : List Bound) (P : Source) (kn : Knot) where
   part_stmt : (c : Around) (a : StmtShape) (w : Walked) → IsSitedPart S F P.tables c a w → IsSitedStmt S F P.tables c a (with_block_if true (pos_of_stmt a) w)
   part_stmt c (stmt p ms q f) w h = h
 
-  module _ (calling : Calling S F P kn) (turning : Turning) where
-    value_of : (n : ℕ) (e : NodeShape) (c : Around) (w : Walked) → IsSited S F c Read e w → (s : State) → Safe S F n s ((meaning P.tables kn e).value (heard c w) s) Any
-    value_of n e c w h s = value_safe S F P kn calling c e w h n s
+  module _ (calling : Calling S F P kn keeps) (turning : Turning) where
+    value_of : (n : ℕ) (e : NodeShape) (c : Around) (w : Walked) → IsSited S F P.tables c Read e w → (s : State) → Safe S F n s ((meaning P.tables kn e).value (heard c w) s) Any
+    value_of n e c w h s = value_safe S F P kn keeps calling c e w h n s
 
-    discarded_safe : (n : ℕ) (e : MaybeNode) (c : Around) (w : Walked) → IsMaybeSited S F c e w → (s : State) → Safe S F n s (discarded P.tables kn e (heard c w) s) Any
+    discarded_safe : (n : ℕ) (e : MaybeNode) (c : Around) (w : Walked) → IsMaybeSited S F P.tables c e w → (s : State) → Safe S F n s (discarded P.tables kn e (heard c w) s) Any
     discarded_safe n no_node c w h s = safe_gives S F n s _ Any tt
     discarded_safe n (one_node e) c w h s = safe_then S F n s _ _ Any Any (value_of n e c w h s) (λ v s e k. safe_gives S F n s _ Any tt)
 
-    step_flow_safe : (n : ℕ) (e : MaybeNode) (c : Around) (w : Walked) → IsStepSited S F c e w → (s : State) → Safe S F n s (step_flow P.tables kn e (heard c w) s) Any
+    step_flow_safe : (n : ℕ) (e : MaybeNode) (c : Around) (w : Walked) → IsStepSited S F P.tables c e w → (s : State) → Safe S F n s (step_flow P.tables kn e (heard c w) s) Any
     step_flow_safe n no_node c w h s = safe_gives S F n s _ Any tt
-    step_flow_safe n (one_node e) c w h s = safe_then S F n s _ _ Any Any (arm_safe S F P kn c e w (block_arm_safe S F P kn calling c e w h) n s) (λ v s e k. safe_gives S F n s _ Any tt)
+    step_flow_safe n (one_node e) c w h s = safe_then S F n s _ _ Any Any (arm_safe S F P kn keeps c e w (block_arm_safe S F P kn keeps calling c e w h) n s) (λ v s e k. safe_gives S F n s _ Any tt)
 
-    test_of : (n : ℕ) (e : NodeShape) (c : Around) (w : Walked) → IsTestSited S F c e w → (s : State) → Safe S F n s (tested e (meaning P.tables kn e) (heard c w) s) Any
-    test_of n e c w h s = tested_safe S F P kn c e w (test_safe S F P kn calling c e w h) n s
+    test_of : (n : ℕ) (e : NodeShape) (c : Around) (w : Walked) → IsTestSited S F P.tables c e w → (s : State) → Safe S F n s (tested e (meaning P.tables kn e) (heard c w) s) Any
+    test_of n e c w h s = tested_safe S F P kn keeps c e w (test_safe S F P kn keeps calling c e w h) n s
 
-    loop_test_safe : (n : ℕ) (e : MaybeNode) (c : Around) (w : Walked) → IsLoopTestSited S F c e w → (s : State) → Safe S F n s (loop_test P.tables kn e (heard c w) s) Any
+    loop_test_safe : (n : ℕ) (e : MaybeNode) (c : Around) (w : Walked) → IsLoopTestSited S F P.tables c e w → (s : State) → Safe S F n s (loop_test P.tables kn e (heard c w) s) Any
     loop_test_safe n no_node c w h s = safe_gives S F n s _ Any tt
     loop_test_safe n (one_node e) c w h s = block_safe S F n true c w s _ Any (test_of n e c (with_block (pos_of e) w) h (noted_block true (heard c w) s))
 
-    after_safe : (n : ℕ) (c : Around) (f : MaybeNode) (v : Walked) (a : StmtShape) (w : Walked) (g : MaybeNode) (u : Walked) → IsLoopTestSited S F c f v → IsSitedPart S F P.tables c a w → IsStepSited S F c g u → n ≤ w.variables → (fl : Flow) (s : State)
+    after_safe : (n : ℕ) (c : Around) (f : MaybeNode) (v : Walked) (a : StmtShape) (w : Walked) (g : MaybeNode) (u : Walked) → IsLoopTestSited S F P.tables c f v → IsSitedPart S F P.tables c a w → IsStepSited S F P.tables c g u → n ≤ w.variables → (fl : Flow) (s : State)
         → Safe S F n s (after_body P.tables kn (looping c f v a w g u) fl s) Any
     after_safe n c f v a w g u hf ha hg le Next s = safe_then S F n s _ _ Any Any (step_flow_safe n g c u hg s) (λ x s e k. turning n c f v a w g u hf ha hg le s)
     after_safe n c f v a w g u hf ha hg le Continue s = safe_then S F n s _ _ Any Any (step_flow_safe n g c u hg s) (λ x s e k. turning n c f v a w g u hf ha hg le s)
@@ -105,7 +106,7 @@ module _ (S : Sites) (F : List Bound) (P : Source) (kn : Knot) where
     abbrev Flows : ℕ → Around → Bool → StmtShape → Walked → Type 0
     Flows n c b a w = (s : State) → Safe S F n s (flow P.tables kn b a (heard c w) s) Any
 
-    do_safe : (n : ℕ) (a : StmtShape) (e : NodeShape) (c : Around) (w : Walked) → IsSitedPart S F P.tables c a w → IsLoopTestSited S F c (one_node e) (walk_part P.tables c a w) → n ≤ w.variables → Flows n c true a w → (s : State)
+    do_safe : (n : ℕ) (a : StmtShape) (e : NodeShape) (c : Around) (w : Walked) → IsSitedPart S F P.tables c a w → IsLoopTestSited S F P.tables c (one_node e) (walk_part P.tables c a w) → n ≤ w.variables → Flows n c true a w → (s : State)
         → Safe S F n s (form_flow P.tables kn (do_while a e) (heard c w) s) Any
     do_safe n (stmt p ms q f) e c w ha he le fl s =
         let a = stmt p ms q f in
@@ -161,7 +162,7 @@ module _ (S : Sites) (F : List Bound) (P : Source) (kn : Knot) where
       pub compound_opens : (n : ℕ) (a : CompoundShape) (c : Around) (w : Walked) → n ≤ w.variables → IsSitedCompound S F P.tables c a w → (s : State) → Opens S F n (opened_to P.tables c a w) s (compound_flow P.tables kn a (heard c w) s)
       compound_opens n (braces p ds items) c w le h s =
           let u = walk_decls P.tables c ds w in
-          opens_then S F n u.variables u.variables s _ _ (decls_open S F P kn calling n ds c w s le h.0) (λ f s. opens_safe S F u.variables u.variables s _ (omega arith) (items_safe u.variables here false items c u (omega arith) h.1 s))
+          opens_then S F n u.variables u.variables s _ _ (decls_open S F P kn keeps calling n ds c w s le h.0) (λ f s. opens_safe S F u.variables u.variables s _ (omega arith) (items_safe u.variables here false items c u (omega arith) h.1 s))
 
       items_safe : (n : ℕ) (entry : Entry) (after : Bool) (items : ItemShapes) (c : Around) (w : Walked) → n ≤ w.variables → AreSitedItems S F P.tables c after items w → (s : State) → Safe S F n s (items_flow P.tables kn entry after items (heard c w) s) Any
       items_safe n entry after no_items c w le h s = safe_gives S F n s _ Any tt
@@ -175,7 +176,7 @@ module _ (S : Sites) (F : List Bound) (P : Source) (kn : Knot) where
           (items_safe n (passed entry labels) (splits a) rest c u lu h.1 s)
 
     -- one turn of a loop, and what follows
-    pub turn_safe : (n : ℕ) (c : Around) (f : MaybeNode) (v : Walked) (a : StmtShape) (w : Walked) (g : MaybeNode) (u : Walked) → IsLoopTestSited S F c f v → IsSitedPart S F P.tables c a w → IsStepSited S F c g u → n ≤ w.variables → (s : State)
+    pub turn_safe : (n : ℕ) (c : Around) (f : MaybeNode) (v : Walked) (a : StmtShape) (w : Walked) (g : MaybeNode) (u : Walked) → IsLoopTestSited S F P.tables c f v → IsSitedPart S F P.tables c a w → IsStepSited S F P.tables c g u → n ≤ w.variables → (s : State)
         → Safe S F n s (loop_turn P.tables kn (looping c f v a w g u) s) Any
     turn_safe n c f v a w g u hf ha hg le s = safe_then S F n s _ _ Any Any (loop_test_safe n f c v hf s) (λ x s k z.
         safe_if S F n x s _ _ Any

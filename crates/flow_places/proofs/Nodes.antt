@@ -1,6 +1,6 @@
 -- What an expression keeps: the states are good, and the calls are as they were; and where the place of a variable is.
 use Rattle.std.proofs.Common.{ℕ, ◌+◌, List, [], ◌∷◌, ◌≡◌, inl, inr, refl, sym, subst, ap, ◌∙◌, arith, Option, Some, None, Bool, true, false}
-use Rattle.std.specs.Prelude.{drop, length, nat_lt, is_some, Contains, if◌then◌else◌}
+use Rattle.std.specs.Prelude.{◌⊎◌, drop, length, nat_lt, is_some, Contains, if◌then◌else◌}
 use Rattle.std.proofs.lemmas.Bool.{true≢false}
 use Rattle.c_base.specs.declared.place.Pos.{Pos}
 use Rattle.c_events.specs.declared.events.Event.TheVariants as event
@@ -36,13 +36,14 @@ use Rattle.c_meaning.specs.Knot.{Knot}
 use Rattle.c_meaning.specs.Builtins.{built_in, called, called_row, params_of}
 use Rattle.c_meaning.specs.Expressions.{gives, operand, number_value, literal_value, noted_value, cast_value, tested, arm, last_test, written, assigned, stepped_from, step_value, meaning, form_meaning, arguments}
 use Rattle.c_meaning.specs.Calls.{Source}
+use Rattle.flow_names.specs.Keeping.{KeepsNames}
 use Rattle.flow_misses.specs.Placing.{Local, Sites}
 use Rattle.flow_misses.proofs.Lists.{some_not, some_is, or_some}
-use Rattle.flow_places.specs.Sited.{variable_named, form_names, IsUse, IsDefinition, IsReadSite, IsUsedSite, IsDefinedSite, IsUntold, IsSited, IsFormSited, IsTestSited, IsArmSited, AreSited}
+use Rattle.flow_places.specs.Sited.{IsUsedAt, IsDefinedAt, variable_named, form_names, IsUse, IsDefinition, IsReadSite, IsUsedSite, IsDefinedSite, IsUntold, IsSited, IsFormSited, IsTestSited, IsArmSited, AreSited}
 use Rattle.flow_places.proofs.Good.{Good, test_quiet}
 use Rattle.flow_places.proofs.Safe.{Any, GoodAt, Safe, safe_gives, safe_stops, safe_then, safe_turn, safe_if, safe_settled, safe_needed, safe_did, ForUse, ForDef}
 use Rattle.flow_places.proofs.Copied.{copied_safe}
-use Rattle.flow_places.proofs.Parts.{block_safe, loaded_safe, stored_safe, fetched_safe, variable_safe, field_safe, built_in_safe}
+use Rattle.flow_places.proofs.Parts.{MayUse, MayDef, block_safe, loaded_safe, stored_safe, fetched_safe, variable_safe, field_safe, built_in_safe}
 
 module _ (S : Sites) (F : List Bound) where
   to_at : {A : Type 0} (s : State) (r : Got A) (Q R : A → List Call → Type 0) → ((a : A) (cs : List Call) → Q a cs → R a cs) → GoodAt S F s r Q → GoodAt S F s r R
@@ -70,7 +71,7 @@ module _ (S : Sites) (F : List Bound) where
   def_of : (v : Local) (q : Pointer) (cs : List Call) → v.parameter ≡ false → v.names ≡ S.leaf v.variable 0 ∷ [] → Itself v.variable q cs → ForDef S F (Some v) q cs
   def_of v q cs e h k = (e, k.0, subst (λ (i : ℕ). v.names ≡ S.leaf v.variable i ∷ []) (sym k.1) h)
 
-  module _ (P : Source) (kn : Knot) where
+  module _ (P : Source) (kn : Knot) (keeps : KeepsNames kn) where
     first_of : (x v j m : ℕ) (cs : List Call) → v ≡ x → found_within v cs ≡ Some j → Itself x (whole j m) cs
     first_of x v j m cs e h = (subst (λ (y : ℕ). found_within y cs ≡ Some j) e h, omega arith)
 
@@ -100,35 +101,61 @@ module _ (S : Sites) (F : List Bound) where
       form_named p y (choose a b d) x e h r i n s = absurd (some_not x e)
       form_named p y (probe u a) x e h r i n s = absurd (some_not x e)
 
-    use_place : (a : NodeShape) (o : Option Local) → IsUse S F (variable_named a) o → (r : Taken) (i : First) (n : ℕ) (s : State) → Safe S F n s ((meaning P.tables kn a).place r i s) Any → Safe S F n s ((meaning P.tables kn a).place r i s) (ForUse S F o)
-    use_place a None h r i n s f = safe_to n s _ Any (ForUse S F None) (λ q cs k. tt) f
-    use_place a (Some v) h r i n s f = safe_to n s _ (Itself v.variable) (ForUse S F (Some v)) (λ q cs k. use_of v q cs h.1 k) (named_place a v.variable h.0.is h.0.local r i n s)
+    -- what holds wherever the place is found
+    found_at : (s : State) (r : Got Pointer) (Q : Pointer → List Call → Type 0) → ((u : State) (q : Pointer) → r ≡ Gives q u → Q q u.calls) → GoodAt S F s r Any → GoodAt S F s r Q
+    found_at s (Gives q u) Q f h = (h.0, h.1, subst (Q q) h.1 (f u q refl))
+    found_at s (Stops why u) Q f h = h
 
-    def_place : (a : NodeShape) (o : Option Local) → IsDefinition S F (variable_named a) o → (r : Taken) (i : First) (n : ℕ) (s : State) → Safe S F n s ((meaning P.tables kn a).place r i s) Any → Safe S F n s ((meaning P.tables kn a).place r i s) (ForDef S F o)
-    def_place a None h r i n s f = safe_to n s _ Any (ForDef S F None) (λ q cs k. tt) f
-    def_place a (Some v) h r i n s f = safe_to n s _ (Itself v.variable) (ForDef S F (Some v)) (λ q cs k. def_of v q cs h.1 h.2 k) (named_place a v.variable h.0.is h.0.local r i n s)
+    found_safe : (n : ℕ) (s : State) (r : Got Pointer) (Q : Pointer → List Call → Type 0) → (s.file ≡ F → (u : State) (q : Pointer) → r ≡ Gives q u → Q q u.calls) → Safe S F n s r Any → Safe S F n s r Q
+    found_safe n s r Q f h = record { by = λ g w. found_at s r Q (f g.file) (h.by g w) }
+
+    use_itself : (a : NodeShape) (o : Option Local) → IsUse S F (variable_named a) o → (r : Taken) (i : First) (n : ℕ) (s : State) → Safe S F n s ((meaning P.tables kn a).place r i s) Any → Safe S F n s ((meaning P.tables kn a).place r i s) (MayUse S F o)
+    use_itself a None h r i n s f = safe_to n s _ Any (MayUse S F None) (λ q cs k lt. tt) f
+    use_itself a (Some v) h r i n s f = safe_to n s _ (Itself v.variable) (MayUse S F (Some v)) (λ q cs k lt. use_of v q cs h.1 k) (named_place a v.variable h.0.is h.0.local r i n s)
+
+    use_found : (a : NodeShape) (o : Option Local) → IsUsedAt S F P.tables a o → (r : Taken) (i : First) (n : ℕ) (s : State) → Safe S F n s ((meaning P.tables kn a).place r i s) Any → Safe S F n s ((meaning P.tables kn a).place r i s) (MayUse S F o)
+    use_found a None h r i n s f = absurd h
+    use_found a (Some v) h r i n s f = found_safe n s _ (MayUse S F (Some v)) (λ e u q is lt. h.by kn keeps r i s u q e is lt) f
+
+    use_place : (a : NodeShape) (o : Option Local) → IsUse S F (variable_named a) o ⊎ IsUsedAt S F P.tables a o → (r : Taken) (i : First) (n : ℕ) (s : State) → Safe S F n s ((meaning P.tables kn a).place r i s) Any
+        → Safe S F n s ((meaning P.tables kn a).place r i s) (MayUse S F o)
+    use_place a o (inl h) r i n s f = use_itself a o h r i n s f
+    use_place a o (inr h) r i n s f = use_found a o h r i n s f
+
+    def_itself : (a : NodeShape) (o : Option Local) → IsDefinition S F (variable_named a) o → (r : Taken) (i : First) (n : ℕ) (s : State) → Safe S F n s ((meaning P.tables kn a).place r i s) Any → Safe S F n s ((meaning P.tables kn a).place r i s) (MayDef S F o)
+    def_itself a None h r i n s f = safe_to n s _ Any (MayDef S F None) (λ q cs k lt. tt) f
+    def_itself a (Some v) h r i n s f = safe_to n s _ (Itself v.variable) (MayDef S F (Some v)) (λ q cs k lt. def_of v q cs h.1 h.2 k) (named_place a v.variable h.0.is h.0.local r i n s)
+
+    def_found : (a : NodeShape) (o : Option Local) → IsDefinedAt S F P.tables a o → (r : Taken) (i : First) (n : ℕ) (s : State) → Safe S F n s ((meaning P.tables kn a).place r i s) Any → Safe S F n s ((meaning P.tables kn a).place r i s) (MayDef S F o)
+    def_found a None h r i n s f = absurd h
+    def_found a (Some v) h r i n s f = found_safe n s _ (MayDef S F (Some v)) (λ e u q is lt. let k = h.1.by kn keeps r i s u q e is lt in (h.0, k.0, k.1)) f
+
+    def_place : (a : NodeShape) (o : Option Local) → IsDefinition S F (variable_named a) o ⊎ IsDefinedAt S F P.tables a o → (r : Taken) (i : First) (n : ℕ) (s : State) → Safe S F n s ((meaning P.tables kn a).place r i s) Any
+        → Safe S F n s ((meaning P.tables kn a).place r i s) (MayDef S F o)
+    def_place a o (inl h) r i n s f = def_itself a o h r i n s f
+    def_place a o (inr h) r i n s f = def_found a o h r i n s f
 
     -- where it is used, and then defined
     abbrev pub ForBoth : Option Local → Option Local → Pointer → List Call → Type 0
-    ForBoth o d q cs = ForUse S F o q cs × ForDef S F d q cs
+    ForBoth o d q cs = MayUse S F o q cs × MayDef S F d q cs
 
-    both_at : (s : State) (r : Got Pointer) (o d : Option Local) → GoodAt S F s r (ForUse S F o) → GoodAt S F s r (ForDef S F d) → GoodAt S F s r (ForBoth o d)
+    both_at : (s : State) (r : Got Pointer) (o d : Option Local) → GoodAt S F s r (MayUse S F o) → GoodAt S F s r (MayDef S F d) → GoodAt S F s r (ForBoth o d)
     both_at s (Gives a t) o d h g = (h.0, h.1, (h.2, g.2))
     both_at s (Stops why t) o d h g = h
 
-    both_place : (a : NodeShape) (o d : Option Local) → IsUse S F (variable_named a) o → IsDefinition S F (variable_named a) d → (r : Taken) (i : First) (n : ℕ) (s : State) → Safe S F n s ((meaning P.tables kn a).place r i s) Any
+    both_place : (a : NodeShape) (o d : Option Local) → IsUse S F (variable_named a) o ⊎ IsUsedAt S F P.tables a o → IsDefinition S F (variable_named a) d ⊎ IsDefinedAt S F P.tables a d → (r : Taken) (i : First) (n : ℕ) (s : State) → Safe S F n s ((meaning P.tables kn a).place r i s) Any
         → Safe S F n s ((meaning P.tables kn a).place r i s) (ForBoth o d)
     both_place a o d h k r i n s f = record { by = λ g w. let x = use_place a o h r i n s f in let y = def_place a d k r i n s f in both_at s _ o d (x.by g w) (y.by g w) }
 
     -- ---- what a place gives as a value
 
-    fetch_by : (p : Pos) (y : NoteShape) (f : ExprShape) (c : Around) (w : Walked) (b : Bool) → has_scalar y ≡ b → (b ≡ true → IsUse S F (form_names y f) (S.used (next_use w))) → (n : ℕ) (s : State)
+    fetch_by : (p : Pos) (y : NoteShape) (f : ExprShape) (c : Around) (w : Walked) (b : Bool) → has_scalar y ≡ b → (b ≡ true → IsUse S F (form_names y f) (S.used (next_use w)) ⊎ IsUsedAt S F P.tables (node p p y f) (S.used (next_use w))) → (n : ℕ) (s : State)
         → Safe S F n s ((form_meaning P.tables kn p y f).place Read (heard c w) s) Any → Safe S F n s (then_do ((form_meaning P.tables kn p y f).place Read (heard c w) s) (fetched P.tables y [] (heard c w))) Any
-    fetch_by p y f c w true e h n s g = safe_then S F n s _ _ (ForUse S F (S.used (next_use w))) Any (use_place (node p p y f) (S.used (next_use w)) (h refl) Read (heard c w) n s g) (λ q t k m.
-        fetched_safe S F n P.tables y [] c w q t (λ z. subst (ForUse S F (S.used (next_use w)) q) (sym k) m))
+    fetch_by p y f c w true e h n s g = safe_then S F n s _ _ (MayUse S F (S.used (next_use w))) Any (use_place (node p p y f) (S.used (next_use w)) (h refl) Read (heard c w) n s g) (λ q t k m.
+        fetched_safe S F n P.tables y [] c w q t (λ z. subst (MayUse S F (S.used (next_use w)) q) (sym k) m))
     fetch_by p y f c w false e h n s g = safe_then S F n s _ _ Any Any g (λ q t k m. fetched_safe S F n P.tables y [] c w q t (λ z. absurd (true≢false (sym z ∙ e))))
 
-    fetch : (p : Pos) (y : NoteShape) (f : ExprShape) (c : Around) (w : Walked) → (has_scalar y ≡ true → IsUse S F (form_names y f) (S.used (next_use w))) → (n : ℕ) (s : State)
+    fetch : (p : Pos) (y : NoteShape) (f : ExprShape) (c : Around) (w : Walked) → (has_scalar y ≡ true → IsUse S F (form_names y f) (S.used (next_use w)) ⊎ IsUsedAt S F P.tables (node p p y f) (S.used (next_use w))) → (n : ℕ) (s : State)
         → Safe S F n s ((form_meaning P.tables kn p y f).place Read (heard c w) s) Any → Safe S F n s (then_do ((form_meaning P.tables kn p y f).place Read (heard c w) s) (fetched P.tables y [] (heard c w))) Any
     fetch p y f c w h n s g = fetch_by p y f c w (has_scalar y) refl h n s g
 
@@ -186,7 +213,7 @@ module _ (S : Sites) (F : List Bound) where
     name_place_any : (n : ℕ) (k : TypeOf) (v : ℕ) (s : State) → Safe S F n s (turn s (variable_place P.tables k v)) Any
     name_place_any n k v s = safe_turn S F n s _ Any (λ t e. variable_safe S F n P.tables k v t Any (λ j h. tt))
 
-    name_safe : (p : Pos) (y : NoteShape) (x : Text) (c : Around) (w : Walked) → IsReadSite S F Read y (leaf (name x)) w → (n : ℕ) (s : State) → Safe S F n s ((form_meaning P.tables kn p y (leaf (name x))).value (heard c w) s) Any
+    name_safe : (p : Pos) (y : NoteShape) (x : Text) (c : Around) (w : Walked) → IsReadSite S F P.tables Read p y (leaf (name x)) w → (n : ℕ) (s : State) → Safe S F n s ((form_meaning P.tables kn p y (leaf (name x))).value (heard c w) s) Any
     name_safe p (typed k (Some v)) x c w g n s = fetch p (typed k (Some v)) (leaf (name x)) c w g n s (name_place_any n k v s)
     name_safe p (typed k None) x c w g n s = safe_turn S F n s _ Any (λ t e. safe_stops S F n _ t Any)
     name_safe p (known k v) x c w g n s = safe_turn S F n s _ Any (λ t e. safe_gives S F n t _ Any tt)
@@ -250,49 +277,49 @@ module _ (S : Sites) (F : List Bound) where
     cast_safe n (array y m) s r h = safe_then S F n s _ _ Any Any (safe_needed S F n s r h) (λ v s e k. safe_gives S F n s _ Any tt)
     cast_safe n (structure m) s r h = safe_then S F n s _ _ Any Any (safe_needed S F n s r h) (λ v s e k. safe_gives S F n s _ Any tt)
 
-    written_safe : (n : ℕ) (y : TypeOf) (xs : List Text) (c : Around) (w : Walked) (q : Pointer) (v : Value) (s : State) → ForDef S F (S.defined (next_def w)) q s.calls → Safe S F n s (written y xs (heard c w) q v s) Any
+    written_safe : (n : ℕ) (y : TypeOf) (xs : List Text) (c : Around) (w : Walked) (q : Pointer) (v : Value) (s : State) → MayDef S F (S.defined (next_def w)) q s.calls → Safe S F n s (written y xs (heard c w) q v s) Any
     written_safe n y xs c w q v s k = safe_then S F n s _ _ Any Any (stored_safe S F n xs c w q (converted y v) s k) (λ v s e k. safe_gives S F n s _ Any tt)
 
     stepped_safe : (n : ℕ) (f : Bool) (x : Value) (v : Option Value) (s : State) → Safe S F n s (stepped_from f x v s) Any
     stepped_safe n true x v s = safe_gives S F n s _ Any tt
     stepped_safe n false x v s = safe_gives S F n s _ Any tt
 
-    step_safe : (f : Bool) (u : Step) (c : Around) (a : NodeShape) (w : Walked) → Places c Changed a w → IsUsedSite S F a w → IsDefinedSite S F a w → (n : ℕ) (s : State) → Safe S F n s (turn s (step_value f u a (meaning P.tables kn a) (heard c w))) Any
+    step_safe : (f : Bool) (u : Step) (c : Around) (a : NodeShape) (w : Walked) → Places c Changed a w → IsUsedSite S F P.tables a w → IsDefinedSite S F P.tables a w → (n : ℕ) (s : State) → Safe S F n s (turn s (step_value f u a (meaning P.tables kn a) (heard c w))) Any
     step_safe f u c a w pa hu hd n s =
         let o = S.used (next_use w) in
         let d = S.defined (next_def w) in
         safe_turn S F n s _ Any (λ s e.
         safe_then S F n s _ _ (ForBoth o d) Any (both_place a o d hu hd Changed (heard c w) n s (pa n s)) (λ q t e k.
-        safe_then S F n t _ _ Any Any (loaded_safe S F n (marks used a) c w q t (subst (ForUse S F o q) (sym e) k.0)) (λ x v h z.
+        safe_then S F n t _ _ Any Any (loaded_safe S F n (marks used a) c w q t (subst (MayUse S F o q) (sym e) k.0)) (λ x v h z.
         safe_then S F n v _ _ Any Any (safe_settled S F n (stepped_by_one u (operand a) x) v Any (λ q e. tt)) (λ y r g z.
-        safe_then S F n r _ _ Any Any (written_safe n (type_at a) (marks def a) c w q y r (subst (ForDef S F d q) (sym (g ∙ h ∙ e)) k.1)) (λ y r g z. stepped_safe n f x y r)))))
+        safe_then S F n r _ _ Any Any (written_safe n (type_at a) (marks def a) c w q y r (subst (MayDef S F d q) (sym (g ∙ h ∙ e)) k.1)) (λ y r g z. stepped_safe n f x y r)))))
 
     -- a structure's place that is copied, or a value that is written
-    assigned_safe : (z : Bool) (c : Around) (a b : NodeShape) (w : Walked) → Places c (if z then Copied else Read) b (walk_node c Written a w) → (z ≡ false → Values c b (walk_node c Written a w)) → (z ≡ true → IsUntold S F w (walk_node c Written a w)) → (n : ℕ) (q : Pointer) (s : State)
-        → ForDef S F (S.defined (next_def w)) q s.calls → Safe S F n s (assigned z (type_at a) (marks def a) (marks used b) (meaning P.tables kn b) (heard c w) (heard c (walk_node c Written a w)) q s) Any
+    assigned_safe : (z : Bool) (c : Around) (a b : NodeShape) (w : Walked) → Places c (if z then Copied else Read) b (walk_node c Written a w) → (z ≡ false → Values c b (walk_node c Written a w)) → (z ≡ true → IsUntold S F P.tables w (walk_node c Written a w)) → (n : ℕ) (q : Pointer) (s : State)
+        → MayDef S F (S.defined (next_def w)) q s.calls → Safe S F n s (assigned z (type_at a) (marks def a) (marks used b) (meaning P.tables kn b) (heard c w) (heard c (walk_node c Written a w)) q s) Any
     assigned_safe true c a b w pb vb hu n q s k = let h = hu refl in
         safe_then S F n s _ _ Any Any (pb n s) (λ r t e z. copied_safe S F n (marks def a) (marks used b) c w (walk_node c Written a w) q r t h.0 h.1)
     assigned_safe false c a b w pb vb hu n q s k =
-        safe_then S F n s _ _ Any Any (wanted c b (walk_node c Written a w) (vb refl) n s) (λ v r h z. written_safe n (type_at a) (marks def a) c w q v r (subst (ForDef S F (S.defined (next_def w)) q) (sym h) k))
+        safe_then S F n s _ _ Any Any (wanted c b (walk_node c Written a w) (vb refl) n s) (λ v r h z. written_safe n (type_at a) (marks def a) c w q v r (subst (MayDef S F (S.defined (next_def w)) q) (sym h) k))
 
-    assign_safe : (c : Around) (p : Pos) (y : NoteShape) (a b : NodeShape) (w : Walked) → Places c Written a w → IsDefinedSite S F a w → Places c (right_taken None a) b (walk_node c Written a w) → (holds_structure a ≡ false → Values c b (walk_node c Written a w)) → (holds_structure a ≡ true → IsUntold S F w (walk_node c Written a w)) → (n : ℕ) (s : State) → Safe S F n s ((form_meaning P.tables kn p y (two (assign None) a b)).value (heard c w) s) Any
+    assign_safe : (c : Around) (p : Pos) (y : NoteShape) (a b : NodeShape) (w : Walked) → Places c Written a w → IsDefinedSite S F P.tables a w → Places c (right_taken None a) b (walk_node c Written a w) → (holds_structure a ≡ false → Values c b (walk_node c Written a w)) → (holds_structure a ≡ true → IsUntold S F P.tables w (walk_node c Written a w)) → (n : ℕ) (s : State) → Safe S F n s ((form_meaning P.tables kn p y (two (assign None) a b)).value (heard c w) s) Any
     assign_safe c p y a b w pa hd pb vb hu n s =
         let d = S.defined (next_def w) in
         safe_turn S F n s _ Any (λ s e.
-        safe_then S F n s _ _ (ForDef S F d) Any (def_place a d hd Written (heard c w) n s (pa n s)) (λ q t e k.
-        assigned_safe (holds_structure a) c a b w pb vb hu n q t (subst (ForDef S F d q) (sym e) k)))
+        safe_then S F n s _ _ (MayDef S F d) Any (def_place a d hd Written (heard c w) n s (pa n s)) (λ q t e k.
+        assigned_safe (holds_structure a) c a b w pb vb hu n q t (subst (MayDef S F d q) (sym e) k)))
 
-    change_safe : (u : BinaryOp) (c : Around) (p : Pos) (y : NoteShape) (a b : NodeShape) (w : Walked) → Places c Changed a w → IsUsedSite S F a w → IsDefinedSite S F a w → Values c b (walk_node c Changed a w) → (n : ℕ) (s : State)
+    change_safe : (u : BinaryOp) (c : Around) (p : Pos) (y : NoteShape) (a b : NodeShape) (w : Walked) → Places c Changed a w → IsUsedSite S F P.tables a w → IsDefinedSite S F P.tables a w → Values c b (walk_node c Changed a w) → (n : ℕ) (s : State)
         → Safe S F n s ((form_meaning P.tables kn p y (two (assign (Some u)) a b)).value (heard c w) s) Any
     change_safe u c p y a b w pa hu hd vb n s =
         let o = S.used (next_use w) in
         let d = S.defined (next_def w) in
         safe_turn S F n s _ Any (λ s e.
         safe_then S F n s _ _ (ForBoth o d) Any (both_place a o d hu hd Changed (heard c w) n s (pa n s)) (λ q t e k.
-        safe_then S F n t _ _ Any Any (loaded_safe S F n (marks used a) c w q t (subst (ForUse S F o q) (sym e) k.0)) (λ x v h z.
+        safe_then S F n t _ _ Any Any (loaded_safe S F n (marks used a) c w q t (subst (MayUse S F o q) (sym e) k.0)) (λ x v h z.
         safe_then S F n v _ _ Any Any (wanted c b (walk_node c Changed a w) vb n v) (λ x2 r g z.
         safe_then S F n r _ _ Any Any (safe_settled S F n (operated u (operand a) (operand b) x x2) r Any (λ q e. tt)) (λ x3 m l z.
-        written_safe n (type_at a) (marks def a) c w q x3 m (subst (ForDef S F d q) (sym (l ∙ g ∙ h ∙ e)) k.1))))))
+        written_safe n (type_at a) (marks def a) c w q x3 m (subst (MayDef S F d q) (sym (l ∙ g ∙ h ∙ e)) k.1))))))
 
     plain_safe : (u : BinaryOp) (c : Around) (p : Pos) (y : NoteShape) (a b : NodeShape) (w : Walked) → Values c a w → Values c b (walk_node c Read a w) → (n : ℕ) (s : State) → Safe S F n s ((form_meaning P.tables kn p y (two (plain u) a b)).value (heard c w) s) Any
     plain_safe u c p y a b w va vb n s = safe_turn S F n s _ Any (λ s e.
@@ -317,16 +344,16 @@ module _ (S : Sites) (F : List Bound) where
 
     module _ (calling : Calling) where
       mutual
-        pub value_safe : (c : Around) (a : NodeShape) (w : Walked) → IsSited S F c Read a w → (n : ℕ) (s : State) → Safe S F n s ((meaning P.tables kn a).value (heard c w) s) Any
+        pub value_safe : (c : Around) (a : NodeShape) (w : Walked) → IsSited S F P.tables c Read a w → (n : ℕ) (s : State) → Safe S F n s ((meaning P.tables kn a).value (heard c w) s) Any
         value_safe c (node p o y f) w g n s = form_safe c p y f w g n s
 
-        pub test_safe : (c : Around) (a : NodeShape) (w : Walked) → IsTestSited S F c a w → Tests c a w
+        pub test_safe : (c : Around) (a : NodeShape) (w : Walked) → IsTestSited S F P.tables c a w → Tests c a w
         test_safe c (node p o y f) w g = λ n s. form_safe (inside_test c f w) p y f (with_test p f w) g n s
 
-        pub block_arm_safe : (c : Around) (a : NodeShape) (w : Walked) → IsArmSited S F c a w → Arms c a w
+        pub block_arm_safe : (c : Around) (a : NodeShape) (w : Walked) → IsArmSited S F P.tables c a w → Arms c a w
         block_arm_safe c (node p o y f) w g = λ n s. form_safe c p y f (with_block p w) g n s
 
-        form_safe : (c : Around) (p : Pos) (y : NoteShape) (f : ExprShape) (w : Walked) → IsFormSited S F c Read p y f w → (n : ℕ) (s : State) → Safe S F n s ((form_meaning P.tables kn p y f).value (heard c w) s) Any
+        form_safe : (c : Around) (p : Pos) (y : NoteShape) (f : ExprShape) (w : Walked) → IsFormSited S F P.tables c Read p y f w → (n : ℕ) (s : State) → Safe S F n s ((form_meaning P.tables kn p y f).value (heard c w) s) Any
         form_safe c p y (leaf (number x)) w g n s = safe_turn S F n s _ Any (λ s e. number_safe n (number_of x) s)
         form_safe c p y (leaf (char x)) w g n s = safe_turn S F n s _ Any (λ s e. safe_gives S F n s _ Any tt)
         form_safe c p y (leaf (str x)) w g n s = safe_turn S F n s _ Any (λ s e. literal_safe n y x s)
@@ -351,7 +378,7 @@ module _ (S : Sites) (F : List Bound) where
         form_safe c p y (suffix a (behind u)) w g n s = step_safe false u c a w (place_safe c Changed a w g.0) g.1 g.2 n s
         form_safe c p y (two (assign None) a b) w g n s =
             let v = walk_node c Written a w in
-            assign_safe c p y a b w (place_safe c Written a w g.0) g.1 (place_safe c (right_taken None a) b v g.2) (λ e. value_safe c b v (subst (λ z. IsSited S F c (if z then Copied else Read) b v) e g.2)) g.3 n s
+            assign_safe c p y a b w (place_safe c Written a w g.0) g.1 (place_safe c (right_taken None a) b v g.2) (λ e. value_safe c b v (subst (λ z. IsSited S F P.tables c (if z then Copied else Read) b v) e g.2)) g.3 n s
         form_safe c p y (two (assign (Some u)) a b) w g n s = change_safe u c p y a b w (place_safe c Changed a w g.0) g.1 g.2 (value_safe c b _ g.3) n s
         form_safe c p y (two (plain u) a b) w g n s = plain_safe u c p y a b w (value_safe c a w g.0) (value_safe c b _ g.1) n s
         form_safe c p y (two and a b) w g n s = and_safe c p y a b w (test_safe c a w g.0) (test_safe c b _ g.1) n s
@@ -361,10 +388,10 @@ module _ (S : Sites) (F : List Bound) where
         form_safe c p y (choose a b d) w g n s = choose_safe c p y a b d w (test_safe c a w g.0) (block_arm_safe c b _ g.1) (block_arm_safe c d _ g.2) n s
         form_safe c p y (probe u a) w g n s = absurd g
 
-        pub place_safe : (c : Around) (r : Taken) (a : NodeShape) (w : Walked) → IsSited S F c r a w → (n : ℕ) (s : State) → Safe S F n s ((meaning P.tables kn a).place r (heard c w) s) Any
+        pub place_safe : (c : Around) (r : Taken) (a : NodeShape) (w : Walked) → IsSited S F P.tables c r a w → (n : ℕ) (s : State) → Safe S F n s ((meaning P.tables kn a).place r (heard c w) s) Any
         place_safe c r (node p o y f) w g n s = form_place c r p y f w g n s
 
-        form_place : (c : Around) (r : Taken) (p : Pos) (y : NoteShape) (f : ExprShape) (w : Walked) → IsFormSited S F c r p y f w → (n : ℕ) (s : State) → Safe S F n s ((form_meaning P.tables kn p y f).place r (heard c w) s) Any
+        form_place : (c : Around) (r : Taken) (p : Pos) (y : NoteShape) (f : ExprShape) (w : Walked) → IsFormSited S F P.tables c r p y f w → (n : ℕ) (s : State) → Safe S F n s ((form_meaning P.tables kn p y f).place r (heard c w) s) Any
         form_place c r p y (leaf (name x)) w g n s = name_places p y x r (heard c w) n s
         form_place c r p y (paren a) w g n s = place_safe c r a w g n s
         form_place c r p y (prefix (unary front.Deref) a) w g n s = deref_safe r p y a c w (value_safe c a _ g.1) n s
@@ -395,7 +422,7 @@ module _ (S : Sites) (F : List Bound) where
         form_place c r p y (choose a b d) w g n s = safe_stops S F n _ s Any
         form_place c r p y (probe u a) w g n s = absurd g
 
-        arguments_safe : (c : Around) (args : NodeShapes) (w : Walked) → AreSited S F c args w → (ts : List TypeOf) (n : ℕ) (s : State) → Safe S F n s (arguments P.tables kn args ts (heard c w) s) Any
+        arguments_safe : (c : Around) (args : NodeShapes) (w : Walked) → AreSited S F P.tables c args w → (ts : List TypeOf) (n : ℕ) (s : State) → Safe S F n s (arguments P.tables kn args ts (heard c w) s) Any
         arguments_safe c no_nodes w g ts n s = safe_gives S F n s _ Any tt
         arguments_safe c (more_nodes a rest) w g ts n s =
             safe_then S F n s _ _ Any Any (wanted c a w (value_safe c a w g.0) n s) (λ v s e k.

@@ -1,6 +1,8 @@
 -- What the small parts of the meaning keep: turns, reading, writing, places, and the functions that every program has.
-use Rattle.std.proofs.Common.{ℕ, ◌-◌, List, [], ◌∷◌, ◌≡◌, refl, sym, subst, arith, Option, Some, None, Result, Ok, Err, Bool, true, false}
-use Rattle.std.specs.Prelude.{nat_le, bytes_eq, if◌then◌else◌}
+use Rattle.std.proofs.Common.{ℕ, ◌-◌, ◌<◌, length, List, [], ◌∷◌, ◌≡◌, refl, sym, subst, arith, Option, Some, None, Result, Ok, Err, Bool, true, false}
+use Rattle.std.specs.Prelude.{nat_le, nat_lt, bytes_eq, if◌then◌else◌}
+use Rattle.std.proofs.lemmas.Bool.{and_parts}
+use Rattle.std.proofs.lemmas.Bool.Decides.{nat_tests}
 use Rattle.c_events.specs.declared.events.Event.TheVariants as event
 use Rattle.c_syntax.specs.declared.text.Text.{Text}
 use Rattle.c_syntax.specs.Shape.{TypeOf, int, pointer, array, structure, nothing, NoteShape, bare, typed, known}
@@ -9,7 +11,7 @@ use Rattle.c_store.specs.declared.value.Value.TheVariants.{Int, Null, At}
 use Rattle.c_store.specs.declared.value.Pointer.{Pointer}
 use Rattle.c_store.specs.declared.value.Fault.{Fault}
 use Rattle.c_store.specs.declared.value.Fault.TheVariants.{WriteLiteral}
-use Rattle.c_store.specs.Cells.{Cells, Slot, read_of, write_of, write_in, element_of, replace, with_value, cell_of, selected}
+use Rattle.c_store.specs.Cells.{Cells, Slot, find, is_inside, element_in, read_in, read_of, write_of, write_in, element_of, replace, with_value, cell_of, selected}
 use Rattle.c_tables.specs.Tables.{TablesShape}
 use Rattle.c_tables.specs.Builtins.{builtin_name}
 use Rattle.c_tables.specs.declared.builtins.Builtin.TheVariants.{GetChar, PutChar, Exit}
@@ -24,11 +26,48 @@ use Rattle.c_meaning.specs.Layout.{Part, cells, part_in}
 use Rattle.c_meaning.specs.Firsts.{heard, noted_block, noted_outcome, noted_use, noted_def}
 use Rattle.c_meaning.specs.Places.{whole, log_use, log_def, loaded, stored, fetched, variable_place, part_place, field_place, room, has_part, selected_place}
 use Rattle.c_meaning.specs.Builtins.{next_byte, put_byte, exits, built_in}
-use Rattle.flow_misses.specs.Placing.{Sites}
+use Rattle.flow_misses.specs.Placing.{Local, Sites}
 use Rattle.flow_places.proofs.Good.{block_quiet, test_quiet, Still}
 use Rattle.flow_places.proofs.Safe.{Any, Safe, safe_gives, safe_stops, safe_then, safe_still, safe_gives_at, safe_stops_at, safe_if, safe_settled, safe_present, safe_did, safe_logs, ForUse, ForDef, safe_use, safe_def}
 
+-- ---- what is read or written is in its array
+
+abbrev pub IsWithin : {A : Type 0} → Pointer → A → List Call → Type 0
+IsWithin q a cs = q.index < q.length
+
+inside_of : (p : Pointer) (n : ℕ) → is_inside p n ≡ true → p.index < p.length
+inside_of p n e = let h = (and_parts (nat_lt p.index p.length) _ e).0 in grind (arith, nat_tests)
+
+read_if : (b : Bool) (slot : Slot) (why : Fault) (p : Pointer) (v : Value) → read_in (if b then Ok slot else Err why) p ≡ Ok v → b ≡ true
+read_if true slot why p v e = refl
+read_if false slot why p v e = cc
+
+read_found : (o : Option Slot) (p : Pointer) (v : Value) → read_in (element_in o p) p ≡ Ok v → p.index < p.length
+read_found None p v e = cc
+read_found (Some slot) p v e = inside_of p (length slot.cells) (read_if (is_inside p (length slot.cells)) slot _ p v e)
+
+read_within : (c : Cells) (p : Pointer) (v : Value) → read_of c p ≡ Ok v → p.index < p.length
+read_within c p v e = read_found (find p.instance c.live) p v e
+
+write_if : (b : Bool) (c m : Cells) (slot : Slot) (why : Fault) (p : Pointer) (v : Value) → write_in c (if b then Ok slot else Err why) p v ≡ Ok m → b ≡ true
+write_if true c m slot why p v e = refl
+write_if false c m slot why p v e = cc
+
+write_found : (o : Option Slot) (c m : Cells) (p : Pointer) (v : Value) → write_in c (element_in o p) p v ≡ Ok m → p.index < p.length
+write_found None c m p v e = cc
+write_found (Some slot) c m p v e = inside_of p (length slot.cells) (write_if (is_inside p (length slot.cells)) c m slot _ p v e)
+
+pub written_within : (c m : Cells) (p : Pointer) (v : Value) → write_of c p v ≡ Ok m → p.index < p.length
+written_within c m p v e = write_found (find p.instance c.live) c m p v e
+
 module _ (S : Sites) (F : List Bound) where
+  -- where the pointer isn't past the end of its array
+  abbrev pub MayUse : Option Local → Pointer → List Call → Type 0
+  MayUse o q cs = q.index < q.length → ForUse S F o q cs
+
+  abbrev pub MayDef : Option Local → Pointer → List Call → Type 0
+  MayDef o q cs = q.index < q.length → ForDef S F o q cs
+
   pub turns_safe : {A : Type 0} (n m : ℕ) (s : State) (go : State → Got A) (Q : A → List Call → Type 0) → ((t : State) → t.calls ≡ s.calls → Safe S F n t (go t) Q) → Safe S F n s (turns m s go) Q
   turns_safe n m s go Q f =
       let t : State = record s { turns = s.turns - m } in
@@ -53,9 +92,9 @@ module _ (S : Sites) (F : List Bound) where
   pub def_still : (q : Pointer) (m : ℕ) (s : State) → Still S F s (log_def q m s)
   def_still q m s = record { deeds = refl; calls = refl; count = omega arith; last = refl; file = refl }
 
-  pub loaded_safe : (n : ℕ) (xs : List Text) (c : Around) (w : Walked) (q : Pointer) (s : State) → ForUse S F (S.used (next_use w)) q s.calls → Safe S F n s (loaded xs (heard c w) q s) Any
-  loaded_safe n xs c w q s k = safe_then S F n s (settled (read_of s.store q) s) _ Any Any (safe_settled S F n (read_of s.store q) s Any (λ a e. tt)) (λ v t e h.
-      safe_use S F n (next_use w) q t _ Any (subst (ForUse S F (S.used (next_use w)) q) (sym e) k)
+  pub loaded_safe : (n : ℕ) (xs : List Text) (c : Around) (w : Walked) (q : Pointer) (s : State) → MayUse (S.used (next_use w)) q s.calls → Safe S F n s (loaded xs (heard c w) q s) Any
+  loaded_safe n xs c w q s k = safe_then S F n s (settled (read_of s.store q) s) _ (IsWithin q) Any (safe_settled S F n (read_of s.store q) s (IsWithin q) (λ a e. read_within s.store q a e)) (λ v t e h.
+      safe_use S F n (next_use w) q t _ Any (subst (ForUse S F (S.used (next_use w)) q) (sym e) (k h))
       (safe_logs S F n (log_use q) xs (noted_use tells (heard c w) q t) (λ s. Gives v s) Any (λ m s. use_still q m s) (λ t e. safe_gives S F n t v Any tt)))
 
   abbrev pub SameCount : ℕ → Result Cells Fault → Type 0
@@ -77,14 +116,14 @@ module _ (S : Sites) (F : List Bound) where
   store_still s c e = record { deeds = refl; calls = refl; count = omega (arith, e); last = refl; file = refl }
 
   -- the store that a write gives
-  pub wrote_safe : {A : Type 0} (n : ℕ) (r : Result Cells Fault) (s : State) (go : Cells → State → Got A) (Q : A → List Call → Type 0) → SameCount s.store.count r → ((c : Cells) → Safe S F n (record s { store = c }) (go c s) Q) → Safe S F n s (then_do (settled r s) go) Q
-  wrote_safe n (Ok c) s go Q e f = safe_still S F n s (record s { store = c }) (go c s) Q (store_still s c e) (f c)
+  pub wrote_safe : {A : Type 0} (n : ℕ) (r : Result Cells Fault) (s : State) (go : Cells → State → Got A) (Q : A → List Call → Type 0) → SameCount s.store.count r → ((c : Cells) → r ≡ Ok c → Safe S F n (record s { store = c }) (go c s) Q) → Safe S F n s (then_do (settled r s) go) Q
+  wrote_safe n (Ok c) s go Q e f = safe_still S F n s (record s { store = c }) (go c s) Q (store_still s c e) (f c refl)
   wrote_safe n (Err why) s go Q e f = safe_stops S F n _ s Q
 
-  pub stored_safe : (n : ℕ) (xs : List Text) (c : Around) (w : Walked) (q : Pointer) (v : Value) (s : State) → ForDef S F (S.defined (next_def w)) q s.calls → Safe S F n s (stored tells xs (heard c w) q v s) Any
-  stored_safe n xs c w q v s k = wrote_safe n (write_of s.store q v) s _ Any (write_count s.store q v) (λ m.
+  pub stored_safe : (n : ℕ) (xs : List Text) (c : Around) (w : Walked) (q : Pointer) (v : Value) (s : State) → MayDef (S.defined (next_def w)) q s.calls → Safe S F n s (stored tells xs (heard c w) q v s) Any
+  stored_safe n xs c w q v s k = wrote_safe n (write_of s.store q v) s _ Any (write_count s.store q v) (λ m e.
       let t : State = record s { store = m } in
-      safe_def S F n (next_def w) q t _ Any k
+      safe_def S F n (next_def w) q t _ Any (k (written_within s.store m q v e))
       (safe_logs S F n (log_def q) xs (noted_def tells (heard c w) q t) (λ s. Gives v s) Any (λ m s. def_still q m s) (λ t e. safe_gives S F n t v Any tt)))
 
   -- ---- places
@@ -93,7 +132,7 @@ module _ (S : Sites) (F : List Bound) where
   selected_safe n q offset m size s = safe_if S F n (has_part q offset m size) s _ _ Any (safe_settled S F n (selected s.store q offset m size) s Any (λ a e. tt)) (safe_stops S F n _ s Any)
 
   -- what a place gives as a value: a scalar's is read
-  pub fetched_safe : (n : ℕ) (t : TablesShape) (y : NoteShape) (xs : List Text) (c : Around) (w : Walked) (q : Pointer) (s : State) → (has_scalar y ≡ true → ForUse S F (S.used (next_use w)) q s.calls) → Safe S F n s (fetched t y xs (heard c w) q s) Any
+  pub fetched_safe : (n : ℕ) (t : TablesShape) (y : NoteShape) (xs : List Text) (c : Around) (w : Walked) (q : Pointer) (s : State) → (has_scalar y ≡ true → MayUse (S.used (next_use w)) q s.calls) → Safe S F n s (fetched t y xs (heard c w) q s) Any
   fetched_safe n t (typed (int y) m) xs c w q s k = safe_then S F n s _ _ Any Any (loaded_safe n xs c w q s (k refl)) (λ v s e h. safe_gives S F n s (Some v) Any tt)
   fetched_safe n t (typed (pointer y) m) xs c w q s k = safe_then S F n s _ _ Any Any (loaded_safe n xs c w q s (k refl)) (λ v s e h. safe_gives S F n s (Some v) Any tt)
   fetched_safe n t (typed (array y z) m) xs c w q s k = safe_then S F n s _ _ Any Any (selected_safe n q 0 z (cells t y) s) (λ q s e h. safe_gives S F n s (Some (At q)) Any tt)

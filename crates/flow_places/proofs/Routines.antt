@@ -40,6 +40,8 @@ use Rattle.flow_places.proofs.Bound.{Below, made_below, made_tail}
 use Rattle.flow_places.proofs.Good.{begins_quiet, block_quiet, Good, Still, good_act, good_bound, with_instance, good_still, good_closed, good_left, good_activated}
 use Rattle.flow_places.proofs.Safe.{Any, GoodAt, Safe, safe_gives, safe_stops}
 use Rattle.flow_places.proofs.Parts.{SameCount, write_count}
+use Rattle.flow_names.specs.Keeping.{KeepsNames}
+use Rattle.flow_names.proofs.Names.{knots_keep_names}
 use Rattle.flow_places.proofs.Nodes.{Calling}
 use Rattle.flow_places.proofs.Declarations.{logs_then, TopAt, Opens, opens_then, opens_safe, opens_stops, opens_turn, opens_logs, opens_did, opens_present, fits_opens, grown}
 use Rattle.flow_places.proofs.Flows.{ended_count, Turning, opened_to, compound_opens, turn_safe}
@@ -176,7 +178,7 @@ module _ (S : Sites) (F : List Bound) (P : Source) where
   }
   deep_over f n m s y false r go h = over_stops _ s
 
-  module _ (kn : Knot) (calling : Calling S F P kn) (turning : Turning S F P kn) where
+  module _ (kn : Knot) (keeps : KeepsNames kn) (calling : Calling S F P kn keeps) (turning : Turning S F P kn keeps) where
     body_opens : (ms : List ProbeMark) (b : CompoundShape) (f : ℕ) (d : DeclFormShape) (w : Walked) → IsSitedFunction S F P.tables f d b w → (vs : List Value) (s : State)
         → Opens S F w.variables (opened_to P.tables (in_function f) b (with_block (place_of b) (define_parameters P.tables f d w))) s (then_do (given_all P.tables d (heard (in_function f) w) vs s) (λ g s. body_flow P.tables kn ms b (past_signature P.tables d (heard (in_function f) w)) s))
     body_opens ms (braces p ds items) f d w h vs s =
@@ -187,7 +189,7 @@ module _ (S : Sites) (F : List Bound) (P : Source) where
         subst (λ i. Opens S F j.variables (opened_to P.tables c (braces p ds items) u) s (body_flow P.tables kn ms (braces p ds items) i s)) (sym (past_is d c w))
         (opens_did S F j.variables _ (tells (event.Block (next_block j))) s _ (block_quiet S (next_block j)) (λ g. tt)
         (opens_logs S F j.variables _ log_block (map (λ m. m.number) ms) (noted_block true (heard c j) s) _ (λ m s. record { deeds = refl; calls = refl; count = omega arith; last = refl; file = refl }) (λ t.
-        opens_turn S F j.variables _ t _ (λ v. compound_opens S F P kn calling turning j.variables (braces p ds items) c u (omega arith) h.1 v)))))
+        opens_turn S F j.variables _ t _ (λ v. compound_opens S F P kn keeps calling turning j.variables (braces p ds items) c u (omega arith) h.1 v)))))
 
     found_over : (ms : List ProbeMark) (b : CompoundShape) (f : ℕ) (d : DeclFormShape) (w : Walked) → IsSitedFunction S F P.tables f d b w → (vs : List Value) (s : State)
         → Over s (called_found P.tables kn f (Some (record { params = d; marks = ms; body = b; first = heard (in_function f) w })) vs s)
@@ -210,10 +212,10 @@ module _ (S : Sites) (F : List Bound) (P : Source) where
         one_over f n (nat_eq n f) refl ms b d w h.0 (routine_in P.tables f (heard c u) rest) vs s (routine_over c rest u h.1 f vs s)
 
   pub record Knotted (n : ℕ) : Type 0 where
-    pub turning : Turning S F P (knot P audible n)
+    pub turning : Turning S F P (knot P audible n) (knots_keep_names P audible n)
     pub over : (f : ℕ) (vs : List Value) (s : State) → Over s ((knot P audible n).call f vs s)
 
-  calling_in : (n : ℕ) → ((f : ℕ) (vs : List Value) (s : State) → Over s ((knot P audible n).call f vs s)) → Calling S F P (knot P audible n)
+  calling_in : (n : ℕ) → ((f : ℕ) (vs : List Value) (s : State) → Over s ((knot P audible n).call f vs s)) → Calling S F P (knot P audible n) (knots_keep_names P audible n)
   calling_in n h m f vs s = over_safe m s _ (h f vs s)
 
   pub knotted : AreSitedExternals S F P.tables P.unit.externals units.no_items → (n : ℕ) → Knotted n
@@ -221,7 +223,8 @@ module _ (S : Sites) (F : List Bound) (P : Source) where
   knotted o (suc n) =
       let k = knotted o n in
       let kn = knot P audible n in
+      let keeps = knots_keep_names P audible n in
       record {
-        turning = λ m c f v a w g u hf ha hg le s. turn_safe S F P kn (calling_in n k.over) k.turning m c f v a w g u hf ha hg le s;
-        over = λ f vs s. routine_over kn (calling_in n k.over) k.turning (in_function 0) P.unit.externals units.no_items o f vs s;
+        turning = λ m c f v a w g u hf ha hg le s. turn_safe S F P kn keeps (calling_in n k.over) k.turning m c f v a w g u hf ha hg le s;
+        over = λ f vs s. routine_over kn keeps (calling_in n k.over) k.turning (in_function 0) P.unit.externals units.no_items o f vs s;
       }

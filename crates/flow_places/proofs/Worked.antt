@@ -1,5 +1,5 @@
 -- A worked program: its sites, which are those of its local variables; each of its runs is in place; and sites that aren't its own.
-use Rattle.std.proofs.Common.{◌≡◌, ℕ, zero, suc, List, [], ◌∷◌, Option, Some, None, refl, sym, ap, subst, arith, false}
+use Rattle.std.proofs.Common.{inl, inr, ◌≡◌, ℕ, zero, suc, List, [], ◌∷◌, Option, Some, None, refl, sym, ap, subst, arith, false}
 use Rattle.std.specs.Prelude.{Contains}
 use Rattle.std.proofs.lemmas.Bool.{true≢false}
 use Rattle.c_base.specs.declared.place.Pos.{Pos}
@@ -20,9 +20,12 @@ use Rattle.c_meaning.specs.Calls.{Source, calls}
 use Rattle.c_meaning.specs.Runs.{all_made, audible, run_heard}
 use Rattle.c_events.specs.declared.events.Cell.{Cell}
 use Rattle.c_events.specs.declared.events.Event.TheVariants as event
+use Rattle.c_walk.specs.declared.around.Taken.TheVariants.{Read}
+use Rattle.c_meaning.specs.Places.{whole}
+use Rattle.flow_names.proofs.Names.{calls_keep_names}
 use Rattle.flow_misses.specs.Placing.{Local, Sites, AreInPlace}
-use Rattle.flow_misses.proofs.Lists.{some_is}
-use Rattle.flow_places.specs.Sited.{IsItself}
+use Rattle.flow_misses.proofs.Lists.{some_not, some_is}
+use Rattle.flow_places.specs.Sited.{IsItself, StandsFor}
 use Rattle.flow_places.specs.Declared.{AreSitesOf, AreSitedExternals}
 use Rattle.flow_places.proofs.Laws.{runs_are_in_place}
 
@@ -129,8 +132,8 @@ its_sites = record {
       (
         ((((refl, refl, refl), (λ h. absurd (true≢false (sym h)))), tt), tt),
         (
-          ((λ h. i_used), (((((refl, refl, refl), (λ h. i_used)), tt), tt), (((λ h. absurd (true≢false (sym h))), i_used, (record { is = refl; local = refl }, refl, refl)), tt))),
-          ((λ h. i_used), tt),
+          ((λ h. inl i_used), (((((refl, refl, refl), (λ h. inl i_used)), tt), tt), (((λ h. absurd (true≢false (sym h))), inl i_used, inl (record { is = refl; local = refl }, refl, refl)), tt))),
+          ((λ h. inl i_used), tt),
         ),
       ),
     ),
@@ -152,9 +155,17 @@ its_events = refl
 abbrev wrong_sites : Sites
 wrong_sites = record { defined = definitions; used = λ u. Some (variable 2 k_text); leaf = leaves }
 
+-- in a call in which i stands for instance 7, its place is no place of k
+called : State
+called = record (start [] 100) { calls = record { function = 1; activation = 1; scopes = (record { variable = 1; instance = 7 } ∷ []) ∷ [] } ∷ [] }
+
+not_found : StandsFor [] tables (i 30) 2 (λ c. Contains (k_text ∷ []) (leaves 2 c)) → ⊥
+unfolding called
+not_found h =
+    let k = h.by (calls program audible) (calls_keep_names program audible) Read audible called (record called { turns = 99 }) (whole 7 1) refl refl (omega arith) in
+    absurd (some_not 7 k.0)
+
 not_its_own : AreSitesOf program wrong_sites → ⊥
 not_its_own h =
     let k = h.inside [] 100 Next (start [] 100) refl in
-    let u = k.0.1.1.0.0 refl in
-    let e = some_is 1 2 u.0.is in
-    absurd (omega (arith, e))
+    elim (k.0.1.1.0.0 refl) [ inl u ↦ let e = some_is 1 2 u.0.is in absurd (omega (arith, e)) | inr u ↦ not_found u ]

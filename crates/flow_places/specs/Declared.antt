@@ -57,7 +57,7 @@ module _ (S : Sites) (F : List Bound) (t : TablesShape) where
   abbrev pub IsSitedVariable : Around → Option Named → ℕ → Option TypeOf → MaybeInit → Walked → Type 0
   IsSitedVariable c x n None init w = Unit {0}
   IsSitedVariable c x n (Some y) no_init w = Unit {0}
-  IsSitedVariable c x n (Some y) (one_init (one a)) w = IsInitial S t n y (one a) (S.defined (next_def w)) × IsSited S F c Read a (with_whole_def t c.function x w)
+  IsSitedVariable c x n (Some y) (one_init (one a)) w = IsInitial S t n y (one a) (S.defined (next_def w)) × IsSited S F t c Read a (with_whole_def t c.function x w)
   IsSitedVariable c x n (Some y) (one_init (listed p items last)) w = IsInitial S t n y (listed p items last) (S.defined (next_def w))
 
   abbrev pub IsSitedDeclarator : Around → DeclaratorShape → Walked → Type 0
@@ -83,20 +83,20 @@ module _ (S : Sites) (F : List Bound) (t : TablesShape) where
 
     pub IsSitedBody : Around → FormShape → Walked → Type 0
     IsSitedBody c (compound a) w = IsSitedCompound c a w
-    IsSitedBody c (simply e) w = IsMaybeSited S F c e w
-    IsSitedBody c (when e a) w = IsTestSited S F c e w × IsSitedPart c a (walk_test c e w)
-    IsSitedBody c (either e a d) w = IsTestSited S F c e w × IsSitedPart c a (walk_test c e w) × IsSitedPart c d (walk_part t c a (walk_test c e w))
-    IsSitedBody c (while e a) w = IsLoopTestSited S F c (one_node e) w × IsSitedPart c a (walk_loop_test c e w)
-    IsSitedBody c (do_while a e) w = IsSitedPart c a w × IsLoopTestSited S F c (one_node e) (walk_part t c a w)
+    IsSitedBody c (simply e) w = IsMaybeSited S F t c e w
+    IsSitedBody c (when e a) w = IsTestSited S F t c e w × IsSitedPart c a (walk_test c e w)
+    IsSitedBody c (either e a d) w = IsTestSited S F t c e w × IsSitedPart c a (walk_test c e w) × IsSitedPart c d (walk_part t c a (walk_test c e w))
+    IsSitedBody c (while e a) w = IsLoopTestSited S F t c (one_node e) w × IsSitedPart c a (walk_loop_test c e w)
+    IsSitedBody c (do_while a e) w = IsSitedPart c a w × IsLoopTestSited S F t c (one_node e) (walk_part t c a w)
     IsSitedBody c (for e f g a) w =
         let j = walk_maybe c e w in
         let k = walk_maybe_test c f j in
-        IsMaybeSited S F c e w × IsLoopTestSited S F c f j × IsStepSited S F c g k × IsSitedPart c a (walk_step c g k)
+        IsMaybeSited S F t c e w × IsLoopTestSited S F t c f j × IsStepSited S F t c g k × IsSitedPart c a (walk_step c g k)
     IsSitedBody c (switch e items) w =
-        IsSited S F (inside c w) Read e (with_decision (pos_of e) (cases (case_values (choosing e) items)) w) × AreSitedItems c false items (walk_choice c e items w)
+        IsSited S F t (inside c w) Read e (with_decision (pos_of e) (cases (case_values (choosing e) items)) w) × AreSitedItems c false items (walk_choice c e items w)
     IsSitedBody c break w = Unit {0}
     IsSitedBody c continue w = Unit {0}
-    IsSitedBody c (return e) w = IsMaybeSited S F c e w
+    IsSitedBody c (return e) w = IsMaybeSited S F t c e w
 
     pub IsSitedPart : Around → StmtShape → Walked → Type 0
     IsSitedPart c (stmt p ms q f) w = IsSitedBody c f (with_block p w)

@@ -1,6 +1,6 @@
--- Which sites may be told of in a program: of an expression, those that are a local variable itself, by the numbers that the walk gives them. No
--- probe stands in it.
-use Rattle.std.specs.Prelude.{◌≡◌, ℕ, Contains, List, [], ◌∷◌, true, false, Option, Some, None}
+-- Which sites may be told of in a program: of an expression, those that are a local variable itself or are found at cells of their names, by the
+-- numbers that the walk gives them. No probe stands in it.
+use Rattle.std.specs.Prelude.{◌≡◌, ◌<◌, ◌⊎◌, ℕ, Contains, List, [], ◌∷◌, true, false, Option, Some, None}
 use Rattle.c_base.specs.declared.place.Pos.{Pos}
 use Rattle.c_syntax.specs.Shape.{NoteShape, typed, name, unary, before, size_of, plain, and, or, assign, comma, NodeShape, node, ExprShape, leaf, paren, call, prefix, size_of_type, cast, suffix, two, choose, probe, index, field, behind, NodeShapes, no_nodes, more_nodes, MaybeNode, no_node, one_node}
 use Rattle.c_walk.specs.declared.around.Around.{Around}
@@ -10,7 +10,15 @@ use Rattle.c_walk.specs.Places.{holds_structure}
 use Rattle.c_walk.specs.Walked.{Walked, operand_taken, right_taken, with_block, pos_of, inside_test, with_test, with_site}
 use Rattle.c_walk.specs.Counted.{next_def, next_use}
 use Rattle.c_walk.specs.Walking.{walk_node, walk_test, walk_arm}
-use Rattle.c_meaning.specs.State.{Bound, found_in}
+use Rattle.c_store.specs.declared.value.Pointer.{Pointer}
+use Rattle.c_store.specs.Cells.{cell_of}
+use Rattle.c_tables.specs.Tables.{TablesShape}
+use Rattle.c_meaning.specs.State.{Bound, State, found_in, found_within}
+use Rattle.c_meaning.specs.Results.{Gives}
+use Rattle.c_meaning.specs.Firsts.{First}
+use Rattle.c_meaning.specs.Knot.{Knot}
+use Rattle.c_meaning.specs.Expressions.{meaning}
+use Rattle.flow_names.specs.Keeping.{KeepsNames}
 use Rattle.flow_walks.specs.Expressions.{reads}
 use Rattle.flow_misses.specs.Placing.{Local, Sites}
 
@@ -47,16 +55,31 @@ abbrev pub IsDefinition : Sites → List Bound → Option ℕ → Option Local �
 IsDefinition S F named None = Unit {0}
 IsDefinition S F named (Some v) = IsItself F named v × (v.parameter ≡ false) × (v.names ≡ S.leaf v.variable 0 ∷ [])
 
-module _ (S : Sites) (F : List Bound) where
+-- ---- sites by what they come to
+
+-- wherever the place is found, it is in the instance that the variable stands for in the active call, at such a cell, or past the end of an array
+pub record StandsFor (F : List Bound) (t : TablesShape) (a : NodeShape) (x : ℕ) (P : ℕ → Type 0) : Type 0 where
+  pub by : (k : Knot) → KeepsNames k → (r : Taken) (i : First) (s u : State) (q : Pointer) → s.file ≡ F → (meaning t k a).place r i s ≡ Gives q u → q.index < q.length → (found_within x u.calls ≡ Some q.instance) × P (cell_of q)
+
+-- a use at a cell of one of its names, and a definition at a cell of its one name
+abbrev pub IsUsedAt : Sites → List Bound → TablesShape → NodeShape → Option Local → Type 0
+IsUsedAt S F t a None = ⊥
+IsUsedAt S F t a (Some v) = StandsFor F t a v.variable (λ c. Contains v.names (S.leaf v.variable c))
+
+abbrev pub IsDefinedAt : Sites → List Bound → TablesShape → NodeShape → Option Local → Type 0
+IsDefinedAt S F t a None = ⊥
+IsDefinedAt S F t a (Some v) = (v.parameter ≡ false) × StandsFor F t a v.variable (λ c. v.names ≡ S.leaf v.variable c ∷ [])
+
+module _ (S : Sites) (F : List Bound) (t : TablesShape) where
   -- where a place by itself is read
-  abbrev pub IsReadSite : Taken → NoteShape → ExprShape → Walked → Type 0
-  IsReadSite r n f w = reads r n f ≡ true → IsUse S F (form_names n f) (S.used (next_use w))
+  abbrev pub IsReadSite : Taken → Pos → NoteShape → ExprShape → Walked → Type 0
+  IsReadSite r p n f w = reads r n f ≡ true → IsUse S F (form_names n f) (S.used (next_use w)) ⊎ IsUsedAt S F t (node p p n f) (S.used (next_use w))
 
   abbrev pub IsUsedSite : NodeShape → Walked → Type 0
-  IsUsedSite a w = IsUse S F (variable_named a) (S.used (next_use w))
+  IsUsedSite a w = IsUse S F (variable_named a) (S.used (next_use w)) ⊎ IsUsedAt S F t a (S.used (next_use w))
 
   abbrev pub IsDefinedSite : NodeShape → Walked → Type 0
-  IsDefinedSite a w = IsDefinition S F (variable_named a) (S.defined (next_def w))
+  IsDefinedSite a w = IsDefinition S F (variable_named a) (S.defined (next_def w)) ⊎ IsDefinedAt S F t a (S.defined (next_def w))
 
   -- of neither the definition nor the use of a copy anything is told
   abbrev pub IsUntold : Walked → Walked → Type 0
@@ -68,19 +91,19 @@ module _ (S : Sites) (F : List Bound) where
     IsSited c r (node p o n f) w = IsFormSited c r p n f w
 
     pub IsFormSited : Around → Taken → Pos → NoteShape → ExprShape → Walked → Type 0
-    IsFormSited c r p n (leaf l) w = IsReadSite r n (leaf l) w
+    IsFormSited c r p n (leaf l) w = IsReadSite r p n (leaf l) w
     IsFormSited c r p n (paren a) w = IsSited c r a w
     IsFormSited c r p n (probe u a) w = ⊥
     IsFormSited c r p n (call x args) w = AreSited c args w
-    IsFormSited c r p n (prefix (unary u) a) w = IsReadSite r n (prefix (unary u) a) w × IsSited c (operand_taken u) a (with_site c r p n (prefix (unary u) a) w)
+    IsFormSited c r p n (prefix (unary u) a) w = IsReadSite r p n (prefix (unary u) a) w × IsSited c (operand_taken u) a (with_site c r p n (prefix (unary u) a) w)
     IsFormSited c r p n (prefix (before u) a) w = IsSited c Changed a w × IsUsedSite a w × IsDefinedSite a w
     IsFormSited c r p n (prefix size_of a) w = Unit {0}
     IsFormSited c r p n (size_of_type y) w = Unit {0}
     IsFormSited c r p n (cast y a) w = IsSited c Read a w
     IsFormSited c r p n (suffix a (index b)) w =
         let j = with_site c r p n (suffix a (index b)) w in
-        IsReadSite r n (suffix a (index b)) w × IsSited c Read a j × IsSited c Read b (walk_node c Read a j)
-    IsFormSited c r p n (suffix a (field h x q)) w = IsReadSite r n (suffix a (field h x q)) w × IsSited c Read a (with_site c r p n (suffix a (field h x q)) w)
+        IsReadSite r p n (suffix a (index b)) w × IsSited c Read a j × IsSited c Read b (walk_node c Read a j)
+    IsFormSited c r p n (suffix a (field h x q)) w = IsReadSite r p n (suffix a (field h x q)) w × IsSited c Read a (with_site c r p n (suffix a (field h x q)) w)
     IsFormSited c r p n (suffix a (behind u)) w = IsSited c Changed a w × IsUsedSite a w × IsDefinedSite a w
     IsFormSited c r p n (two (plain u) a b) w = IsSited c Read a w × IsSited c Read b (walk_node c Read a w)
     IsFormSited c r p n (two comma a b) w = IsSited c Read a w × IsSited c Read b (walk_node c Read a w)

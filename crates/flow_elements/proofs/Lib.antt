@@ -1,0 +1,5 @@
+mod Yields
+mod Stepping
+pub mod Layers
+pub mod Places
+mod Worked

@@ -1,0 +1,15 @@
+//! The laws, as contracts.
+
+ghost use Rattle.flow_elements.specs.Names.{PartsHaveNames};
+ghost use Rattle.flow_elements.specs.Laws.{DirectPlacesStand, DirectArraysBegin};
+
+/// The place of a variable, an element or a field, and of elements and fields of these, is at that part of the instance for which the variable stands.
+pub fn direct_places_stand()
+    ensures places { DirectPlacesStand }
+    ensures arrays { DirectArraysBegin }
+{}
+
+/// The cells of a part of an object have the names that they have in the whole, where no structure lies in itself.
+pub fn parts_have_names()
+    ensures { PartsHaveNames }
+{}

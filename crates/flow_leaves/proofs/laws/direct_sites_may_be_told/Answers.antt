@@ -1,0 +1,8 @@
+use Rattle.flow_leaves.proofs.Leaves as leaves
+use Rattle.flow_leaves.proofs.laws.direct_sites_may_be_told.Goals as goal
+
+pub returns-clause-places : goal.returns-clause-places
+returns-clause-places c = leaves.places_are_found
+
+pub returns-clause-sites : goal.returns-clause-sites
+returns-clause-sites c = leaves.sites_may_be_told

@@ -1,0 +1,4 @@
+pub mod Steps
+mod Copied
+pub mod Nodes
+pub mod Names

@@ -1,0 +1,5 @@
+use Rattle.flow_names.proofs.Names as names
+use Rattle.flow_names.proofs.laws.expressions_keep_names.Goals as goal
+
+pub returns : goal.returns
+returns c = names.expressions_keep_names
