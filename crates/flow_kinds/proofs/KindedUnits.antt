@@ -17,13 +17,13 @@ use Rattle.c_tree.specs.Declaring.{type_function}
 use Rattle.c_tree.specs.Stating.{Surroundings, type_marks, type_compound}
 use Rattle.c_tree.specs.Units.{specs_place, begun_function, type_external, type_externals, start, type_line, any_main, type_unit, TypedUnit, bodies, typed_unit}
 use Rattle.c_tree.proofs.Programs.{typed_again}
-use Rattle.flow_initial.proofs.Cores.{Core, core, Kept, KeptByAll, ◌▸◌}
+use Rattle.flow_initial.proofs.Cores.{Core, core, Kept, KeptByUnits, ◌▸◌}
 use Rattle.flow_initial.proofs.KeepsNodes as nodes
 use Rattle.flow_initial.proofs.KeepsParts as parts
 use Rattle.flow_initial.proofs.KeepsUnits as units
 use Rattle.flow_bodies.specs.Bodies.{Good, Reaches}
 use Rattle.flow_kinds.specs.Programs.{IsKindedExternal, AreKindedExternals, AcceptedIsKinded}
-use Rattle.flow_kinds.proofs.Along.{Along, up_to, onward}
+use Rattle.flow_kinds.proofs.Along.{Along, up_to_units, onward, onward_units}
 use Rattle.flow_kinds.proofs.KindedDecls.{decl_kinded}
 use Rattle.flow_kinds.proofs.KindedStatements.{compound_kinded}
 
@@ -41,9 +41,9 @@ module _ (t : TablesShape) where
       let a = begun_function f f.state in
       let m = type_marks ms a in
       let e : Surroundings = record { loop = false; breakable = false; result = kind_at (by 33 (result_type (pointed stars k))) } in
-      let h = onward t s m (type_compound e c m).state
-      (λ J kept. nodes.specs_keep J kept.types false specs unspelled s ▸ nodes.rule_keeps J kept.types r s.at q y.state ▸ parts.function_keeps J kept.types true k stars x ps i v
-      ▸ units.variables_keep J kept f.given _ (units.function_given true k stars x ps i v) ▸ parts.marks_keep J kept.types ms a)
+      let h = onward_units t s m (type_compound e c m).state
+      (λ J kept. let types = kept.all.types in nodes.specs_keep J types false specs unspelled s ▸ nodes.rule_keeps J types r s.at q y.state ▸ parts.function_keeps J types true k stars x ps i v
+      ▸ kept.turning f.number f.state ▸ units.variables_keep J kept.all f.given _ (units.function_given true k stars x ps i v) ▸ parts.marks_keep J types ms a)
       (g.0, record { fields = g.1.fields; more = g.1.more; added = g.1.added }) in
       compound_kinded t e c m is.3 h
 
@@ -52,8 +52,8 @@ module _ (t : TablesShape) where
   externals_kinded (e ∷ rest) s is g =
       let u = (type_external e s).state in
       let end = (type_externals rest u).state in
-      let first : (J : Core → Type 0) → KeptByAll J → J (core s) → J (core u) = λ J kept. units.external_keeps J kept e s is.0 in
-      (external_kinded e s is.0 (up_to t s u end first (λ J kept. units.externals_keep J kept rest u is.1) g), externals_kinded rest u is.1 (onward t s u end first g))
+      let first : (J : Core → Type 0) → KeptByUnits J → J (core s) → J (core u) = λ J kept. units.external_keeps J kept e s is.0 in
+      (external_kinded e s is.0 (up_to_units t s u end first (λ J kept. units.externals_keep J kept rest u is.1) g), externals_kinded rest u is.1 (onward_units t s u end first g))
 
 -- ---- units
 
