@@ -89,24 +89,24 @@ module _ (t : TablesShape) (l : AreLayered t) where
   same_fields a b n h x [] g = refl
   same_fields a b n h x (f ∷ fs) g = ap (λ xs. xs ++ field_names a x fs) (h (x ++ field_text f.name) f.kind g.0) ∙ ap (λ xs. b (x ++ field_text f.name) f.kind ++ xs) (same_fields a b n h x fs g.1)
 
-  same_type : (a b : Text → TypeOf → List Text) (n : ℕ) → ((x : Text) (k : TypeOf) → depth_in l.depths k < n → a x k ≡ b x k) → (x : Text) (k : TypeOf) → depth_in l.depths k ≤ n → type_names a t.structures x k ≡ type_names b t.structures x k
-  same_type a b n h x (int k) le = refl
-  same_type a b n h x (pointer k) le = refl
-  same_type a b n h x (array k c) le = ap (repeat c) (same_type a b n h (x ++ element_text) k le)
-  same_type a b n h x (structure m) le = same_fields a b (l.depths m) (λ x k lt. h x k (omega (arith, lt, le))) x (fields_in (row t.structures m)) (l.below m)
-  same_type a b n h x nothing le = refl
+  same_type : (a b : Text → TypeOf → List Text) (n : ℕ) → n ≤ length t.structures → ((x : Text) (k : TypeOf) → depth_in l.depths k < n → a x k ≡ b x k) → (x : Text) (k : TypeOf) → depth_in l.depths k ≤ n → type_names a t.structures x k ≡ type_names b t.structures x k
+  same_type a b n small h x (int k) le = refl
+  same_type a b n small h x (pointer k) le = refl
+  same_type a b n small h x (array k c) le = ap (repeat c) (same_type a b n small h (x ++ element_text) k le)
+  same_type a b n small h x (structure m) le = same_fields a b (l.depths m) (λ x k lt. h x k (omega (arith, lt, le))) x (fields_in (row t.structures m)) (l.below m (omega (arith, le, small)))
+  same_type a b n small h x nothing le = refl
 
-  deep : (d e : ℕ) (x : Text) (k : TypeOf) → depth_in l.depths k < d → depth_in l.depths k < e → names_to d t.structures x k ≡ names_to e t.structures x k
-  deep zero e x k lt less = absurd (omega (arith, lt))
-  deep (suc d) zero x k lt less = absurd (omega (arith, less))
-  deep (suc d) (suc e) x k lt less =
-      same_type (names_to d t.structures) (names_to e t.structures) (depth_in l.depths k) (λ y j g. deep d e y j (omega (arith, g, lt)) (omega (arith, g, less))) x k (omega arith)
+  deep : (d e : ℕ) (x : Text) (k : TypeOf) → depth_in l.depths k ≤ length t.structures → depth_in l.depths k < d → depth_in l.depths k < e → names_to d t.structures x k ≡ names_to e t.structures x k
+  deep zero e x k small lt less = absurd (omega (arith, lt))
+  deep (suc d) zero x k small lt less = absurd (omega (arith, less))
+  deep (suc d) (suc e) x k small lt less =
+      same_type (names_to d t.structures) (names_to e t.structures) (depth_in l.depths k) small (λ y j g. deep d e y j (omega (arith, g, small)) (omega (arith, g, lt)) (omega (arith, g, less))) x k (omega arith)
 
   -- a structure has the names of its fields
-  opened : (x : Text) (m : ℕ) → cell_names t x (structure m) ≡ field_names (cell_names t) x (fields_in (row t.structures m))
-  opened x m =
+  opened : (x : Text) (m : ℕ) → l.depths m ≤ length t.structures → cell_names t x (structure m) ≡ field_names (cell_names t) x (fields_in (row t.structures m))
+  opened x m small =
       let n = length t.structures in
-      same_fields (names_to n t.structures) (names_to (suc n) t.structures) (l.depths m) (λ y k lt. let le = l.few m in deep n (suc n) y k (omega (arith, lt, le)) (omega (arith, lt, le))) x (fields_in (row t.structures m)) (l.below m)
+      same_fields (names_to n t.structures) (names_to (suc n) t.structures) (l.depths m) (λ y k lt. deep n (suc n) y k (omega (arith, lt, small)) (omega (arith, lt, small)) (omega (arith, lt, small))) x (fields_in (row t.structures m)) (l.below m small)
 
   -- ---- fields
 
@@ -169,19 +169,37 @@ module _ (t : TablesShape) (l : AreLayered t) where
       let f : at ≡ c * length names + i = ap (λ (m : ℕ). c * m + i) (sym size) in
       (subst (λ (m : ℕ). m < cells t k) (sym e) one.0, ap (slice_get (cell_names t x k)) e ∙ one.1 ∙ ap (slice_get (repeat n names)) f ∙ slice_repeat n c i names less (omega (arith, lt, size)))
 
-  named_member : (k : TypeOf) (x : Text) (o m : ℕ) (z f : Text) (p : Part) → IsNamed k x o (structure m) z → part_in t f (structure m) ≡ Some p → IsNamed k x (o + p.offset) p.kind (z ++ field_text f)
-  named_member k x o m z f p h is i lt =
+  named_member : (k : TypeOf) (x : Text) (o m : ℕ) (z f : Text) (p : Part) → l.depths m ≤ length t.structures → IsNamed k x o (structure m) z → part_in t f (structure m) ≡ Some p → IsNamed k x (o + p.offset) p.kind (z ++ field_text f)
+  named_member k x o m z f p small h is i lt =
       let fields = fields_in (row t.structures m) in
       let at = field_at z f 0 fields p is i lt in
-      let size : length (field_names (cell_names t) z fields) ≡ cells t (structure m) = sym (ap length (opened z m)) ∙ names_counted t z (structure m) in
+      let size : length (field_names (cell_names t) z fields) ≡ cells t (structure m) = sym (ap length (opened z m small)) ∙ names_counted t z (structure m) in
       let one = h (at.0 + i) (omega (arith, at.2, size)) in
       let e : (o + p.offset) + i ≡ o + (at.0 + i) = omega (arith, at.1) in
-      (subst (λ (n : ℕ). n < cells t k) (sym e) one.0, ap (slice_get (cell_names t x k)) e ∙ one.1 ∙ ap (λ xs. slice_get xs (at.0 + i)) (opened z m) ∙ at.3)
+      (subst (λ (n : ℕ). n < cells t k) (sym e) one.0, ap (slice_get (cell_names t x k)) e ∙ one.1 ∙ ap (λ xs. slice_get xs (at.0 + i)) (opened z m small) ∙ at.3)
 
-  named : (k : TypeOf) (x : Text) (o : ℕ) (j : TypeOf) (y : Text) → IsPart t k x o j y → IsNamed k x o j y
-  named k x o j y itself = named_itself k x
-  named k x o j y (element p n i y2 z h lt) = named_element k x p n i y2 z (named k x p (array y2 n) z h) lt
-  named k x o j y (member p m z f q h is) = named_member k x p m z f q (named k x p (structure m) z h) is
+  -- a field lies less deep than its structure
+  either_below : (n a : ℕ) (f : Text) (g : FieldShape) (fs : List FieldShape) (p : Part) (b : Bool) → depth_in l.depths g.kind < n → (part_from t (a + cells t g.kind) f fs ≡ Some p → depth_in l.depths p.kind < n)
+      → (if b then Some (record { offset = a; kind = g.kind }) else part_from t (a + cells t g.kind) f fs) ≡ Some p → depth_in l.depths p.kind < n
+  either_below n a f g fs p true here later is = subst (λ (p : Part). depth_in l.depths p.kind < n) (some_same _ p is) here
+  either_below n a f g fs p false here later is = later is
+
+  field_below : (n a : ℕ) (f : Text) (fs : List FieldShape) (p : Part) → AllByRecursion (λ (g : FieldShape). depth_in l.depths g.kind < n) fs → part_from t a f fs ≡ Some p → depth_in l.depths p.kind < n
+  field_below n a f [] p all is = cc
+  field_below n a f (g ∷ fs) p all is = either_below n a f g fs p (bytes_eq f g.name) all.0 (field_below n (a + cells t g.kind) f fs p all.1) is
+
+  part_below : (k : TypeOf) (x : Text) (o : ℕ) (j : TypeOf) (y : Text) → depth_in l.depths k ≤ length t.structures → IsPart t k x o j y → depth_in l.depths j ≤ length t.structures
+  part_below k x o j y small itself = small
+  part_below k x o j y small (element p n i y2 z h lt) = part_below k x p (array y2 n) z small h
+  part_below k x o j y small (member p m z f q h is) =
+      let whole = part_below k x p (structure m) z small h in
+      let less = field_below (l.depths m) 0 f (fields_in (row t.structures m)) q (l.below m whole) is in
+      omega (arith, less, whole)
+
+  named : (k : TypeOf) (x : Text) (o : ℕ) (j : TypeOf) (y : Text) → depth_in l.depths k ≤ length t.structures → IsPart t k x o j y → IsNamed k x o j y
+  named k x o j y small itself = named_itself k x
+  named k x o j y small (element p n i y2 z h lt) = named_element k x p n i y2 z (named k x p (array y2 n) z small h) lt
+  named k x o j y small (member p m z f q h is) = named_member k x p m z f q (part_below k x p (structure m) z small h) (named k x p (structure m) z small h) is
 
 pub parts_have_names : PartsHaveNames
-parts_have_names t l k j x y o h = named t l k x o j y h
+parts_have_names t l v k j x y o e h = named t l k x o j y (l.few v k e) h

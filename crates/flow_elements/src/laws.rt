@@ -9,7 +9,7 @@ pub fn direct_places_stand()
     ensures arrays { DirectArraysBegin }
 {}
 
-/// The cells of a part of an object have the names that they have in the whole, where no structure lies in itself.
+/// The cells of a part of a variable have the names that they have in the whole, where no structure in a variable lies in itself.
 pub fn parts_have_names()
     ensures { PartsHaveNames }
 {}

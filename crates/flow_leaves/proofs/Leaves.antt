@@ -34,7 +34,7 @@ own_name t x nothing e = cc
 
 leaf_of : (t : TablesShape) → AreLayered t → (x y : Text) (v o : ℕ) (k j : TypeOf) → variable_kind t v ≡ Some k → IsPart t k x o j y → is_scalar j ≡ true → leaf_in t x v o ≡ y
 leaf_of t l x y v o k j e h is =
-    let one = parts_have_names t l k j x y o h 0 (one_cell t j is) in
+    let one = parts_have_names t l v k j x y o e h 0 (one_cell t j is) in
     let at : o ≡ o + 0 = omega arith in
     ap (λ p. name_in t x p o) e ∙ ap (λ (c : ℕ). text_in (slice_get (cell_names t x k) c)) at ∙ ap text_in one.1 ∙ ap text_in (own_name t y j is)
 

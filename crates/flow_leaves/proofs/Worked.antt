@@ -1,17 +1,17 @@
 -- A worked element of a local array: it may be told of by its leaf name.
-use Rattle.std.proofs.Common.{ℕ, ◌-◌, [], ◌∷◌, refl, arith, Bool, true, false, Some, None}
+use Rattle.std.proofs.Common.{◌≤◌, ℕ, ◌-◌, [], ◌∷◌, refl, arith, Bool, true, false, Some, None}
 use Rattle.std.specs.Prelude.{nat_eq, slice_get, if◌then◌else◌}
 use Rattle.std.specs.List.{AllByRecursion}
 use Rattle.c_base.specs.declared.place.Pos.{Pos}
 use Rattle.c_base.specs.declared.place.IntKind.TheVariants.{Int}
 use Rattle.c_syntax.specs.declared.text.Text.{Text}
-use Rattle.c_syntax.specs.Shape.{int, array, typed, number, name, NodeShape, node, leaf, suffix, index}
+use Rattle.c_syntax.specs.Shape.{TypeOf, int, pointer, array, structure, nothing, typed, number, name, NodeShape, node, leaf, suffix, index}
 use Rattle.c_tables.specs.Tables.{FieldShape, TablesShape}
 use Rattle.c_tables.specs.Rows.{fields_in}
 use Rattle.c_walk.specs.Items.{Direct}
 use Rattle.flow_misses.specs.Placing.{Local, Sites}
 use Rattle.flow_places.specs.Sited.{IsUsedAt, IsDefinedAt}
-use Rattle.flow_elements.specs.Names.{AreLayered}
+use Rattle.flow_elements.specs.Names.{depth_in, AreLayered}
 use Rattle.flow_leaves.specs.Leaves.{leaf_in, IsLocalScalar}
 use Rattle.flow_leaves.proofs.Leaves.{sites_may_be_told}
 
@@ -43,8 +43,15 @@ no_rows : (P : FieldShape → Type 0) (b : Bool) (i : ℕ) → AllByRecursion P 
 no_rows P true i = tt
 no_rows P false i = tt
 
+flat : (k : TypeOf) → depth_in (λ n. 0) k ≤ 0
+flat (int j) = omega arith
+flat (pointer k) = omega arith
+flat (array k n) = flat k
+flat (structure n) = omega arith
+flat nothing = omega arith
+
 layered : AreLayered tables
-layered = record { depths = λ n. 0; few = λ n. omega arith; below = λ n. no_rows _ (nat_eq n 0) (n - 1) }
+layered = record { depths = λ n. 0; below = λ n le. no_rows _ (nat_eq n 0) (n - 1); few = λ v k e. flat k }
 
 a_scalar : IsLocalScalar tables [] second called
 a_scalar = record { kinded = (refl, ((refl, tt), (tt, tt))); is = refl; scalar = refl; local = refl }
