@@ -4,7 +4,21 @@ use atac_base::memory::{MemoryShelf, MemorySink};
 use atac_base::outside::Shelf;
 use atac_steps::Status;
 use atac_top::top::atac;
+use probe_watch::Watcher;
 use std::alloc::{AllocError, Global};
+
+/// The whole call, of which nothing is known here: what a test asserts of it is seen, and not proved. So no test carries what
+/// the call promises.
+pub fn status_of<S: Shelf>(
+    alloc: Global,
+    words: &Vec<String>,
+    shelf: &mut S,
+    out: &mut MemorySink,
+    err: &mut MemorySink,
+    watchers: Vec<Box<dyn Watcher>>,
+) -> Status {
+    atac(alloc, words, shelf, out, err, watchers)
+}
 
 /// What a call left.
 #[derive(Drop)]
@@ -52,7 +66,7 @@ pub fn call(
     let _ = shelf.keep("e", input);
     let mut out = MemorySink::new(alloc, only(alloc, fails.put)?);
     let mut err = MemorySink::new(alloc, only(alloc, fails.tell)?);
-    let status = atac(
+    let status = status_of(
         alloc,
         &given,
         &mut shelf,

@@ -2,10 +2,10 @@
 
 ghost use Rattle.std.specs.Prelude.{◌≡◌};
 
+use crate::calls::status_of;
 use atac_base::memory::{MemoryShelf, MemorySink};
 use atac_base::outside::{FetchErr, Fetched, KeepErr, Shelf};
 use atac_steps::Status;
-use atac_top::top::atac;
 use probe_watch::{BlockCounter, EventLister, Watcher};
 use sha2::{Digest, Sha256};
 use std::alloc::{AllocError, Global};
@@ -161,7 +161,7 @@ fn play(alloc: Global, line: &str, faults: Faults) -> Result<After, AllocError> 
     let mut shelf = shelf(alloc, faults)?;
     let mut out = MemorySink::new(alloc, only(alloc, faults.put)?);
     let mut err = MemorySink::new(alloc, only(alloc, faults.tell)?);
-    let status = atac(
+    let status = status_of(
         alloc,
         &words,
         &mut shelf,
@@ -415,7 +415,7 @@ fn wanting_shelves(rt: HostRuntime) -> Result<(), Fail> {
         };
         let mut put = MemorySink::new(alloc, Vec::new(alloc));
         let mut said = MemorySink::new(alloc, Vec::new(alloc));
-        let status = atac(
+        let status = status_of(
             alloc,
             &words,
             &mut shelf,

@@ -1,10 +1,9 @@
 //! Traces of runs, from the program with its probes to what is told of them, over a shelf in memory.
 
-use crate::calls::Left;
+use crate::calls::{Left, status_of};
 use atac_base::memory::{MemoryShelf, MemorySink};
 use atac_base::outside::Shelf;
 use atac_steps::Status;
-use atac_top::top::atac;
 use std::alloc::{AllocError, Global};
 use std::test::Fail;
 
@@ -32,7 +31,7 @@ fn call(alloc: Global, shelf: &mut MemoryShelf, line: &str) -> Result<Left, Allo
     }
     let mut out = MemorySink::new(alloc, Vec::new(alloc));
     let mut err = MemorySink::new(alloc, Vec::new(alloc));
-    let status = atac(alloc, &words, shelf, &mut out, &mut err, Vec::new(alloc));
+    let status = status_of(alloc, &words, shelf, &mut out, &mut err, Vec::new(alloc));
     Ok(Left { status, out, err })
 }
 

@@ -1,10 +1,9 @@
 //! Watchers that are handed in: of one name, hostile, and of a type of the test's own.
 
-use crate::calls::Left;
+use crate::calls::{Left, status_of};
 use atac_base::memory::{MemoryShelf, MemorySink};
 use atac_base::outside::Shelf;
 use atac_steps::Status;
-use atac_top::top::atac;
 use c_base::place::NoMemory;
 use c_events::events::Event;
 use probe_watch::{BlockCounter, EventLister, Watcher};
@@ -92,7 +91,7 @@ fn watch(alloc: Global, name: &str, watchers: Vec<Box<dyn Watcher>>) -> Result<L
     let _ = shelf.keep("e", b"");
     let mut out = MemorySink::new(alloc, Vec::new(alloc));
     let mut err = MemorySink::new(alloc, Vec::new(alloc));
-    let status = atac(alloc, &words, &mut shelf, &mut out, &mut err, watchers);
+    let status = status_of(alloc, &words, &mut shelf, &mut out, &mut err, watchers);
     Ok(Left { status, out, err })
 }
 
