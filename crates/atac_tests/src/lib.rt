@@ -21,6 +21,8 @@ mod handed;
 #[cfg(test)]
 mod lexer;
 #[cfg(test)]
+mod listed;
+#[cfg(test)]
 mod pieces;
 #[cfg(test)]
 mod scopes;
