@@ -1,0 +1,5 @@
+mod Depths
+mod Steps
+mod Parameters
+mod StepUnits
+pub mod Programs
