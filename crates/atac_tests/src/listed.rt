@@ -219,3 +219,43 @@ fn parts(rt: HostRuntime) -> Result<(), Fail> {
     assert_eq!(rt; listed(alloc, POINTER, b"")?, 1);
     Ok(())
 }
+
+const COPIED: &[u8] =
+    b"struct s{int f;int g;};int main(void){struct s v,w;v.f=1;v.g=2;w=v;return w.f+v.g;}";
+
+const OVERWRITTEN: &[u8] =
+    b"struct s{int f;int g;};int main(void){struct s v,w;w.f=5;w.g=6;v.f=1;v.g=2;w=v;return w.g;}";
+
+const INNER: &[u8] =
+    b"struct p{int x;int y;};struct s{struct p a;struct p b;};int main(void){struct s v;v.a.x=1;v.a.y=2;v.b=v.a;return v.b.x+v.a.y;}";
+
+const IN_AN_ARRAY: &[u8] =
+    b"struct p{int x;int y;};int main(void){struct p a[2],q;int i=0;q.x=3;q.y=4;while(i<2){a[i]=q;i=i+1;}q=a[1];return q.y;}";
+
+/// A copy of a structure uses each field of the one and defines each of the other, so it ends what was defined of these; it may
+/// be of a structure in a structure, or in an array.
+#[test]
+fn copies(rt: HostRuntime) -> Result<(), Fail> {
+    let alloc = rt.alloc();
+    assert_eq!(rt; listed(alloc, COPIED, b"")?, 4);
+    assert_eq!(rt; listed(alloc, OVERWRITTEN, b"")?, 3);
+    assert_eq!(rt; listed(alloc, INNER, b"")?, 4);
+    assert_eq!(rt; listed(alloc, IN_AN_ARRAY, b"")?, 10);
+    Ok(())
+}
+
+const INITIALISED: &[u8] =
+    b"struct s{int f;int g;};int main(void){struct s v={1,2};int a[3]={4,5,6};return v.g+a[2];}";
+
+const COPIED_THROUGH: &[u8] =
+    b"struct s{int f;};int main(void){struct s v,w;struct s*p=&w;v.f=1;*p=v;return w.f;}";
+
+/// A list in braces defines all of its variable; what a copy through a pointer defines is no site of a variable: of the last
+/// program the pairs of `p` and `v` are left.
+#[test]
+fn wholes(rt: HostRuntime) -> Result<(), Fail> {
+    let alloc = rt.alloc();
+    assert_eq!(rt; listed(alloc, INITIALISED, b"")?, 2);
+    assert_eq!(rt; listed(alloc, COPIED_THROUGH, b"")?, 2);
+    Ok(())
+}

@@ -12,12 +12,16 @@ use Rattle.flow_calls.specs.Orderly.{IsOrderlyProgram}
 use Rattle.flow_calls.specs.Walking.{IsWalking, IsLeaving}
 use Rattle.flow_misses.specs.Placing.{Local}
 use Rattle.flow_misses.specs.Pairs.{IsListed}
-use Rattle.flow_locals.specs.Locals.{locals_of}
-use Rattle.flow_covered.specs.Covering.{run_events}
+use Rattle.flow_parts.specs.Items.{run_events}
+use Rattle.flow_parts.specs.Parts.{HasParts, parts_of}
 
 -- typed without complaint and not refused, it is orderly
 abbrev pub TakenIsOrderly : Type 0
 TakenIsOrderly = (P : Source) → IsProgram P.unit P.tables → IsTaken P → IsOrderlyProgram P
+
+-- and its sites of local variables may be told of
+abbrev pub TakenHasParts : Type 0
+TakenHasParts = (P : Source) → IsProgram P.unit P.tables → IsTaken P → HasParts P
 
 -- each call of a run is a walk of its function, wherever the run stops
 abbrev pub TakenCallsWalk : Type 0
@@ -30,12 +34,12 @@ TakenCallsLeave = (P : Source) → IsProgram P.unit P.tables → IsTaken P
     → (input : List ℕ) (limit a : ℕ) (status : ℤ) → 1 ≤ a → (run_heard P input limit).end ≡ Returned status
     → (own a (run_heard P input limit).deeds ≡ []) ⊎ IsLeaving P (run_heard P input limit).deeds a
 
--- the pairs of scalar local variables that the events of a run cover are listed, whichever decisions the uses belong to
+-- the pairs of direct sites of local variables that the events of a run cover are listed, whichever decisions the uses belong to
 abbrev pub TakenPairsAreListed : Type 0
-TakenPairsAreListed = (P : Source) → IsProgram P.unit P.tables → IsTaken P → (owner : ℕ → Option ℕ) (input : List ℕ) (limit d u : ℕ) (v r : Local) → (locals_of P).defined d ≡ Some v → (locals_of P).used u ≡ Some r
-    → v.variable ≡ r.variable → Covered owner (run_events P input limit) (Pair d u) → (f : ℕ) × IsListed P (locals_of P) f d v u r
+TakenPairsAreListed = (P : Source) → IsProgram P.unit P.tables → IsTaken P → (owner : ℕ → Option ℕ) (input : List ℕ) (limit d u : ℕ) (v r : Local) → (parts_of P).defined d ≡ Some v → (parts_of P).used u ≡ Some r
+    → v.variable ≡ r.variable → Covered owner (run_events P input limit) (Pair d u) → (f : ℕ) × IsListed P (parts_of P) f d v u r
 
 -- and so are the pairs of their p-uses
 abbrev pub TakenPUsesAreListed : Type 0
-TakenPUsesAreListed = (P : Source) → IsProgram P.unit P.tables → IsTaken P → (owner : ℕ → Option ℕ) (input : List ℕ) (limit d u o : ℕ) (v r : Local) → (locals_of P).defined d ≡ Some v → (locals_of P).used u ≡ Some r
-    → v.variable ≡ r.variable → Covered owner (run_events P input limit) (PUse d u o) → (f : ℕ) × IsListed P (locals_of P) f d v u r
+TakenPUsesAreListed = (P : Source) → IsProgram P.unit P.tables → IsTaken P → (owner : ℕ → Option ℕ) (input : List ℕ) (limit d u o : ℕ) (v r : Local) → (parts_of P).defined d ≡ Some v → (parts_of P).used u ≡ Some r
+    → v.variable ≡ r.variable → Covered owner (run_events P input limit) (PUse d u o) → (f : ℕ) × IsListed P (parts_of P) f d v u r

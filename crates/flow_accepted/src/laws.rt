@@ -1,10 +1,12 @@
 //! The laws, as contracts.
 
-ghost use Rattle.flow_accepted.specs.Laws.{TakenIsOrderly, TakenCallsWalk, TakenCallsLeave, TakenPairsAreListed, TakenPUsesAreListed};
+ghost use Rattle.flow_accepted.specs.Laws.{TakenIsOrderly, TakenHasParts, TakenCallsWalk, TakenCallsLeave, TakenPairsAreListed, TakenPUsesAreListed};
 
-/// A program of the checker that isn't refused is orderly.
+/// A program of the checker that isn't refused is orderly; and its notes, names, types and parameters are as what is proved of
+/// its local variables asks.
 pub fn accepted_is_orderly()
-    ensures { TakenIsOrderly }
+    ensures orderly { TakenIsOrderly }
+    ensures parts { TakenHasParts }
 {}
 
 /// So what each call of a run did by itself is a walk of its function.
@@ -13,8 +15,8 @@ pub fn accepted_calls_are_walks()
     ensures leaves { TakenCallsLeave }
 {}
 
-/// And each pair, and the pair of each p-use, that the events of a run cover between a definition and a use of one scalar
-/// local variable is listed.
+/// And each pair, and the pair of each p-use, that the events of a run cover between a definition and a use of one local
+/// variable or parameter is listed.
 pub fn accepted_pairs_are_listed()
     ensures pairs { TakenPairsAreListed }
     ensures p_uses { TakenPUsesAreListed }

@@ -5,7 +5,7 @@ use Rattle.std.specs.List.{AllByRecursion}
 use Rattle.c_base.specs.declared.place.Pos.{Pos}
 use Rattle.c_syntax.specs.Shape.{TypeOf, int, pointer, array, structure, nothing, str, NodeShape, node, leaf, InitShape, one, listed, InitShapes, no_inits, more_inits}
 use Rattle.c_syntax.specs.Shaped.{Shaped, ShapedInit}
-use Rattle.c_type_rules.specs.Verdicts.{fits_type}
+use Rattle.c_type_rules.specs.Verdicts.{Verdict, wrong, fits_type}
 use Rattle.c_constants.specs.declared.constants.Constant.{Constant}
 use Rattle.c_constants.specs.Constants as constants
 use Rattle.c_store.specs.declared.value.Value.{Value}
@@ -65,17 +65,21 @@ kinds_filled (f ∷ fields) h = (h.0, kinds_filled fields h.1)
 
 -- ---- what is allowed
 
-not_array : (k : TypeOf) (n : ℕ) (o : Option TypeOf) (is_null : Bool) (token : ℕ) (p : Pos) (s : State) → IsThere o → IsClean (rule (by 33 (fits_type (Some (array k n)) o is_null)) token p s) → ⊥
-not_array k n None is_null token p s is clean = is
-not_array k n (Some x) is_null token p s is clean = mended 33 token p s clean
+-- nothing may be stored in an object of that type
+abbrev Unstored : TypeOf → Type 0
+Unstored y = (o : TypeOf) (is_null : Bool) → fits_type (Some y) (Some o) is_null ≡ wrong
 
--- an array takes no value but a string
-refuted : (c : Bool) (k : TypeOf) (n : ℕ) (a : NodeShape) (s : State) → Shaped a → Knows false s → IsClean (value_init c (Some (array k n)) s.at (pos_in a) (type_node a s)).state → ⊥
-refuted c k n a s is h clean =
-    let y = type_node a s in
-    let r = fits (Some (array k n)) y.sort in
-    let fit = back (rule_grows (constant_init c y.sort) s.at (pos_in a) (rule r s.at (pos_in a) y.state)) clean in
-    not_array k n y.sort.kind (null y.sort) s.at (pos_in a) y.state (node_knows a s is h (back (rule_grows r s.at (pos_in a) y.state) fit)).0 fit
+not_stored : (y : TypeOf) → Unstored y → (o : Option TypeOf) (is_null : Bool) (token : ℕ) (p : Pos) (s : State) → IsThere o → IsClean (rule (by 33 (fits_type (Some y) o is_null)) token p s) → ⊥
+not_stored y un None is_null token p s is clean = is
+not_stored y un (Some x) is_null token p s is clean = mended 33 token p s (subst (λ (v : Verdict). IsClean (rule (by 33 v) token p s)) (un x is_null) clean)
+
+-- an array takes no value but a string, and a structure none
+refuted : (c : Bool) (y : TypeOf) → Unstored y → (a : NodeShape) (s : State) → Shaped a → Knows false s → IsClean (value_init c (Some y) s.at (pos_in a) (type_node a s)).state → ⊥
+refuted c y un a s is h clean =
+    let t = type_node a s in
+    let r = fits (Some y) t.sort in
+    let fit = back (rule_grows (constant_init c t.sort) s.at (pos_in a) (rule r s.at (pos_in a) t.state)) clean in
+    not_stored y un t.sort.kind (null t.sort) s.at (pos_in a) t.state (node_knows a s is h (back (rule_grows r s.at (pos_in a) t.state) fit)).0 fit
 
 allowed_so : (b : Bool) (n token : ℕ) (k : TypeOf) (p : Pos) (s : State) → IsClean (rule (allowed_if b n k) token p s) → b ≡ true
 allowed_so true n token k p s clean = refl
@@ -93,8 +97,8 @@ module _ (t : TablesShape) (b : List Bound) (given : ConstantsHaveValues t b) wh
   array_begins : (c : Bool) (k : TypeOf) (n : ℕ) (is : Bool) (a : NodeShape) (s : State) → 1 ≤ n → Shaped a → Knows false s → IsClean (one_init_of (filled (if is then Some n else None) (form_in a)) c (Some (array k n)) a s).state
       → Begins t b (array k n) (one_init_of (filled (if is then Some n else None) (form_in a)) c (Some (array k n)) a s).init
   array_begins c k n true (node p o m (leaf (str x))) s le shaped h clean = (le, tt)
-  array_begins c k n true (node p o m f) s le shaped h clean = absurd (refuted c k n (node p o m f) s shaped h clean)
-  array_begins c k n false a s le shaped h clean = absurd (refuted c k n a s shaped h clean)
+  array_begins c k n true (node p o m f) s le shaped h clean = absurd (refuted c (array k n) (λ o is_null. refl) (node p o m f) s shaped h clean)
+  array_begins c k n false a s le shaped h clean = absurd (refuted c (array k n) (λ o is_null. refl) a s shaped h clean)
 
   value_begins : (k : TypeOf) (a : NodeShape) (s : State) → Shaped a → Knows false s → Good (core s) → Reaches t (core (value_init true (Some k) s.at (pos_in a) (type_node a s)).state)
       → IsClean (value_init true (Some k) s.at (pos_in a) (type_node a s)).state → is_some (value_in t b (type_node a s).node) ≡ true
@@ -171,8 +175,8 @@ module _ (t : TablesShape) (b : List Bound) (given : ConstantsHaveValues t b) wh
   inits_give c (array k n) (one a) s is h g f reach clean = chars_given k n _ (array_begins c k n (is_char k) a s f.0 is.1 h clean)
   inits_give c (int k) (one a) s is h g f reach clean = tt
   inits_give c (pointer k) (one a) s is h g f reach clean = tt
-  inits_give c (structure n) (one a) s is h g f reach clean = tt
-  inits_give c nothing (one a) s is h g f reach clean = tt
+  inits_give c (structure n) (one a) s is h g f reach clean = refuted c (structure n) (λ o is_null. refl) a s is.1 h clean
+  inits_give c nothing (one a) s is h g f reach clean = refuted c nothing (λ o is_null. refl) a s is.1 h clean
   inits_give c k (listed p items last) s is h g f reach clean = has_value _ (beginnings_give_values t b k (type_init c (Some k) (listed p items last) s).init (list_begins c k p items last s is h g f reach clean))
 
 pub constants_suffice : ConstantsSuffice

@@ -66,7 +66,7 @@ module _ (P : Source) (F : List Bound) where
     string_adds y n x (node p o m (choose a b d)) g v c w j k s h = absurd g
     string_adds y n x (node p o m (probe u a)) g v c w j k s h = absurd g
 
-    -- of a scalar, and of what gives no value
+    -- of a scalar
     expression_adds : (y : TypeOf) (x : Option Named) (a : NodeShape) → IsOrderly a → (c : Around) (w : Walked) (j : ℕ) (k : Comes) (s : State) → k []
         → Adds P F (init_goes P.tables c x (one a) w k) s (then_do (needed ((meaning P.tables kn a).value (heard c (with_whole_def P.tables c.function x w)) s)) (λ v. scalar_written x (heard c w) j (converted y v))) (λ f. k)
     expression_adds y x a g c w j k s h =
@@ -80,8 +80,8 @@ module _ (P : Source) (F : List Bound) where
     init_adds (array y n) x (one_init (one a)) g c w j k s h = string_adds y n x a g.0 g.1 c w j k s h
     init_adds (int y) x (one_init (one a)) g c w j k s h = expression_adds (int y) x a g c w j k s h
     init_adds (pointer y) x (one_init (one a)) g c w j k s h = expression_adds (pointer y) x a g c w j k s h
-    init_adds (structure n) x (one_init (one a)) g c w j k s h = expression_adds (structure n) x a g c w j k s h
-    init_adds nothing x (one_init (one a)) g c w j k s h = expression_adds nothing x a g c w j k s h
+    init_adds (structure n) x (one_init (one a)) g c w j k s h = absurd g
+    init_adds nothing x (one_init (one a)) g c w j k s h = absurd g
     init_adds y x (one_init (listed p items last)) g c w j k s h = adds_ok P F _ s _ _ (λ e.
         filled_adds (name_marks x) c w (first_cell j (cells P.tables y)) (init_cells P.tables s.file y (listed p items last)) (subst (λ b. HasValue (init_cells P.tables b y (listed p items last))) (sym e) g) k s h)
 

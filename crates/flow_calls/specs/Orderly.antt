@@ -2,7 +2,7 @@
 -- is no scalar's, and an initialiser gives its variable a value. No probe stands in the tree.
 use Rattle.std.specs.Prelude.{◌≡◌, ℕ, suc, ◌||◌, List, [], ◌∷◌, Bool, true, false, Option, Some, None}
 use Rattle.c_syntax.specs.declared.tree.UnaryOp.TheVariants as front
-use Rattle.c_syntax.specs.Shape.{TypeOf, array, NoteShape, str, unary, before, size_of, plain, and, or, assign, comma, dot, arrow, NodeShape, node, ExprShape, leaf, paren, call, prefix, size_of_type, cast, suffix, two, choose, probe, index, field, behind, NodeShapes, no_nodes, more_nodes, MaybeNode, no_node, one_node, DeclShape, decl, DeclShapes, no_decls, more_decls, DeclaratorShape, declarator, DeclaratorShapes, no_declarators, more_declarators, DeclFormShape, arrays, function, MaybeInit, no_init, one_init, InitShape, one, listed, StmtShape, stmt, FormShape, compound, simply, when, either, while, do_while, for, switch, break, continue, return, CompoundShape, braces, ItemShapes, no_items, more_items, ExternalShape, defined, declared}
+use Rattle.c_syntax.specs.Shape.{TypeOf, array, structure, nothing, NoteShape, str, unary, before, size_of, plain, and, or, assign, comma, dot, arrow, NodeShape, node, ExprShape, leaf, paren, call, prefix, size_of_type, cast, suffix, two, choose, probe, index, field, behind, NodeShapes, no_nodes, more_nodes, MaybeNode, no_node, one_node, DeclShape, decl, DeclShapes, no_decls, more_decls, DeclaratorShape, declarator, DeclaratorShapes, no_declarators, more_declarators, DeclFormShape, arrays, function, MaybeInit, no_init, one_init, InitShape, one, listed, StmtShape, stmt, FormShape, compound, simply, when, either, while, do_while, for, switch, break, continue, return, CompoundShape, braces, ItemShapes, no_items, more_items, ExternalShape, defined, declared}
 use Rattle.c_store.specs.declared.value.Value.{Value}
 use Rattle.c_tables.specs.Tables.{TablesShape}
 use Rattle.c_tables.specs.Rows.{text_of}
@@ -63,7 +63,9 @@ abbrev mutual
   HasOrder (suffix a (field dot x q)) = IsOrderly a × (is_used Read a ≡ false)
   HasOrder (suffix a (field arrow x q)) = IsOrderly a
   HasOrder (suffix a (behind u)) = IsOrderly a × (holds_scalar a ≡ true)
-  HasOrder (two (assign None) a b) = IsOrderly a × (holds_place a ≡ true) × IsOrderly b × (holds_structure a ≡ true → (is_copied a ≡ true) × (is_copied b ≡ true))
+  -- to the left of `=` stands a structure, which is copied, or a scalar
+  HasOrder (two (assign None) a b) =
+      IsOrderly a × (holds_place a ≡ true) × IsOrderly b × (holds_structure a ≡ true → (is_copied a ≡ true) × (is_copied b ≡ true)) × (holds_structure a ≡ false → holds_scalar a ≡ true)
   HasOrder (two (assign (Some u)) a b) = IsOrderly a × (holds_scalar a ≡ true) × IsOrderly b
   HasOrder (two (plain u) a b) = IsOrderly a × IsOrderly b
   HasOrder (two and a b) = IsOrderly a × IsOrderly b
@@ -92,9 +94,11 @@ abbrev pub IsString : NodeShape → Type 0
 IsString (node p o n (leaf (str x))) = Unit {0}
 IsString a = ⊥
 
--- of a variable of that type, where these are the variables of file scope
+-- of a variable of that type, where these are the variables of file scope: a string is an array's, and another expression a scalar's
 abbrev pub IsOrderlyOne : TablesShape → List Bound → TypeOf → NodeShape → Type 0
 IsOrderlyOne t b (array k n) a = IsString a × HasValue (one_cells t b (array k n) a)
+IsOrderlyOne t b (structure n) a = ⊥
+IsOrderlyOne t b nothing a = ⊥
 IsOrderlyOne t b y a = IsOrderly a
 
 abbrev pub IsOrderlyInit : TablesShape → List Bound → TypeOf → InitShape → Type 0

@@ -179,7 +179,7 @@ module _ (rows : ParametersHaveRows) where
       let one = defined_in t (bound_to (length t.variables)) (inits_give t (all_have y.state after)) rows specs stars x ps i ms p ds items s w is h g.0 (ends_itself y.state).0 clean refl in
       record { goes = one.0; fine = fine; roomy = after; counted = sym one.1 ∙ external_count t y.external w }
 
-  external_past : (e : ExternalShape) (s : State) → ShapedExternal e → Knows false s → IsFine (core s) → IsRoomy s → IsClean (type_external e s).state → IsPast e s
+  pub external_past : (e : ExternalShape) (s : State) → ShapedExternal e → Knows false s → IsFine (core s) → IsRoomy s → IsClean (type_external e s).state → IsPast e s
   external_past (declared d) s is h g roomy clean = declared_past d s is h g roomy clean
   external_past (defined specs (declarator stars x (arrays ls) i) ms c) s is h g roomy clean = absurd is.1
   external_past (defined specs (declarator stars x (function ps) i) ms (braces p ds items)) s is h g roomy clean = defined_past specs stars x ps i ms p ds items s is h g roomy clean

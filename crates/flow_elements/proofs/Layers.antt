@@ -78,7 +78,7 @@ module _ (rows : List StructShape) where
   counted zero x k = refl
   counted (suc depth) x k = counted_type (names_to depth rows) (scalars_to depth rows) (counted depth) x k
 
-names_counted : (t : TablesShape) (x : Text) (k : TypeOf) → length (cell_names t x k) ≡ cells t k
+pub names_counted : (t : TablesShape) (x : Text) (k : TypeOf) → length (cell_names t x k) ≡ cells t k
 names_counted t x k = counted t.structures (suc (length t.structures)) x k
 
 -- ---- how deep structures lie doesn't matter beyond their depth

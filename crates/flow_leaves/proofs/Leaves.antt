@@ -39,7 +39,7 @@ leaf_of t l x y v o k j e h is =
     ap (λ p. name_in t x p o) e ∙ ap (λ (c : ℕ). text_in (slice_get (cell_names t x k) c)) at ∙ ap text_in one.1 ∙ ap text_in (own_name t y j is)
 
 -- a variable that isn't one of file scope is found in the active call
-local_instance : (o p : Option ℕ) (j : ℕ) → or_else o p ≡ Some j → p ≡ None → o ≡ Some j
+pub local_instance : (o p : Option ℕ) (j : ℕ) → or_else o p ≡ Some j → p ≡ None → o ≡ Some j
 local_instance o p j e h = elim (or_some o p j e) [ inl k ↦ k | inr k ↦ absurd (some_not j (sym h ∙ k.1)) ]
 
 pub places_are_found : DirectPlacesAreFound

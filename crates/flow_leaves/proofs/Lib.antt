@@ -1,2 +1,4 @@
 pub mod Leaves
+pub mod Names
+pub mod Wholes
 mod Worked

@@ -1,6 +1,6 @@
 -- The pairs that a run makes are listed.
-use Rattle.std.proofs.Common.{ℕ, List, [], ◌∷◌, ◌++◌, ◌≡◌, ◌⊎◌, inl, inr, refl, subst, sym, ap, ◌∙◌, append_assoc, arith, Option, Some, None, Bool, true, false}
-use Rattle.std.specs.Prelude.{nat_eq, ◌&&◌, is_some, Contains, if◌then◌else◌}
+use Rattle.std.proofs.Common.{ℕ, zero, suc, List, [], ◌∷◌, ◌++◌, ◌≡◌, ◌⊎◌, inl, inr, refl, subst, sym, ap, ◌∙◌, append_assoc, arith, Option, Some, None, Bool, true, false}
+use Rattle.std.specs.Prelude.{nat_eq, ◌&&◌, ◌≤◌, Contains, map, if◌then◌else◌}
 use Rattle.std.proofs.lemmas.Bool.{true≢false}
 use Rattle.std.proofs.lemmas.List.Elements.{Contains-push_cases}
 use Rattle.c_events.specs.declared.events.Cell.{Cell}
@@ -8,7 +8,7 @@ use Rattle.c_events.specs.declared.events.Event.{Event}
 use Rattle.c_events.specs.declared.events.Event.TheVariants.{Block, Def, Use, Test}
 use Rattle.c_syntax.specs.declared.text.Text.{Text}
 use Rattle.c_meaning.specs.State.{Act, begins, makes, tells, repeats, Deed, or_else}
-use Rattle.c_meaning.specs.Deeds.{told, own}
+use Rattle.c_meaning.specs.Deeds.{told_by, told, own}
 use Rattle.c_meaning.specs.Calls.{Source}
 use Rattle.c_meaning.proofs.Apart.{told_append, own_append}
 use Rattle.flow_walks.specs.declared.action.Action.{Action}
@@ -17,9 +17,9 @@ use Rattle.flow_walks.specs.Walks.{Walk}
 use Rattle.flow_calls.specs.Readings.{read_as, readings}
 use Rattle.flow_calls.specs.Walking.{IsWalking}
 use Rattle.flow_calls.proofs.Own.{own_here, readings_append}
-use Rattle.flow_misses.specs.Placing.{Local, Sites, given_in, given_number, made_in, made_by, last_made, number_of, IsNewest, InPlace, IsDefined, DefinedAt, UsedAt, IsRepeated, At, AreInPlace}
-use Rattle.flow_misses.specs.Pairs.{HasPair, IsStrong, IsListed, PairsAreListed}
-use Rattle.flow_misses.proofs.Lists.{tails, longer, cancel, snoc_split, two_cuts, Cuts, same, before, behind, or_none, some_not, some_is, if_on, if_some, same_eq}
+use Rattle.flow_misses.specs.Placing.{Local, Sites, given_in, given_number, made_in, made_by, last_made, number_of, IsNewest, InPlace, IsDefined, DefinedAt, UsedAt, IsRepeated, IsUsedAgain, At, AreInPlace, IsStrong, further, IsWhole, IsFinished, AreFinished}
+use Rattle.flow_misses.specs.Pairs.{HasPair, IsListed, PairsAreListed}
+use Rattle.flow_misses.proofs.Lists.{heads, tails, longer, cancel, snoc_split, two_cuts, Cuts, same, before, behind, or_none, some_not, some_is, if_on, if_some, same_eq}
 use Rattle.flow_misses.proofs.Made.{last_append, last_without, made_there}
 use Rattle.flow_misses.proofs.Told.{deed, cut, There, actions_there, own_there, kill_is, define_is}
 
@@ -55,12 +55,45 @@ not_given : (b t : Bool) (o : Option ℕ) → b ≡ false → (if b && t then o 
 not_given true t o e = absurd (true≢false e)
 not_given false t o e = refl
 
+abbrev is_event : Event → Bool
+is_event (Def d c) = true
+is_event e = false
+
+abbrev is_further : Act → Bool
+is_further (repeats e) = is_event e
+is_further a = false
+
 own_cut : (a : ℕ) (p q : List Deed) (act : Act) → own a (p ++ deed a act ∷ q) ≡ own a p ++ act ∷ own a q
 own_cut a p q act = own_append a p (deed a act ∷ q) ∙ ap (λ z. own a p ++ z) (own_append a (deed a act ∷ []) q ∙ ap (λ z. z ++ own a q) (own_here a act))
+
+abbrev is_use : Action → Bool
+is_use (action.Use u) = true
+is_use a = false
+
+no_action : (d u : ℕ) → action.Define d ≡ action.Use u → ⊥
+no_action d u e = true≢false (sym (ap is_use e))
 
 -- an event of those deeds is told there
 abbrev IsTold : Act → Event → Type 0
 IsTold a e = (a ≡ tells e) ⊎ (a ≡ repeats e)
+
+told_there : (a : ℕ) (act : Act) (e : Event) (q : List Deed) → IsTold act e → told (deed a act ∷ q) ≡ e ∷ told q
+told_there a act e q (inl f) = ap (λ b. told_by b (told q)) f
+told_there a act e q (inr f) = ap (λ b. told_by b (told q)) f
+
+-- a use is no further definition
+use_other : (act : Act) (a d u n : ℕ) (c k : Cell) (b : ℕ) → IsTold act (Use u c n) → deed a act ≡ further b d k → ⊥
+use_other act a d u n c k b (inl f) h = true≢false (sym (ap (λ (x : Deed). is_further x.act) h) ∙ ap is_further f)
+use_other act a d u n c k b (inr f) h = true≢false (sym (ap (λ (x : Deed). is_further x.act) h) ∙ ap is_further f)
+
+-- a further definition of one of the cells stands before the use
+further_there : (a d : ℕ) (cells : List Cell) (rest xs post : List Deed) (x : Deed) → ((c : Cell) → x ≡ further a d c → ⊥) → xs ++ x ∷ post ≡ map (further a d) cells ++ rest → (c : Cell) → Contains cells c → There xs a (repeats (Def d c))
+further_there a d [] rest xs post x other e c (k, l, h) = absurd (omega (arith, l))
+further_there a d (b ∷ cells) rest [] post x other e c h = absurd (other b (heads x (further a d b) post (map (further a d) cells ++ rest) e))
+further_there a d (b ∷ cells) rest (y ∷ xs) post x other e c (zero, l, h) = record { front = []; rest = xs; is = ap (λ z. z ∷ xs) (heads y (further a d b) (xs ++ x ∷ post) (map (further a d) cells ++ rest) e ∙ ap (further a d) h) }
+further_there a d (b ∷ cells) rest (y ∷ xs) post x other e c (suc k, l, h) =
+    let t = further_there a d cells rest xs post x other (tails y (further a d b) (xs ++ x ∷ post) (map (further a d) cells ++ rest) e) c (k, omega (arith, l), h) in
+    record { front = y ∷ t.front; rest = t.rest; is = ap (λ z. y ∷ z) t.is }
 
 -- in these deeds the cell is defined at d, and then used at u, and not defined between
 record Pair (ds : List Deed) (d u : ℕ) : Type 0 where
@@ -76,7 +109,7 @@ record Pair (ds : List Deed) (d u : ℕ) : Type 0 where
   mid : List Deed
   post : List Deed
   is : ds ≡ pre ++ deed definer first ∷ (mid ++ deed user last ∷ post)
-  none : (p q : List Deed) (a e : ℕ) → mid ≡ p ++ deed a (tells (Def e cell)) ∷ q → ⊥
+  none : (p q : List Deed) (a e : ℕ) (act : Act) → IsTold act (Def e cell) → mid ≡ p ++ deed a act ∷ q → ⊥
 
 pair_of : (ds : List Deed) (d u : ℕ) → HasPair (told ds) d u → Pair ds d u
 pair_of ds d u pair =
@@ -95,10 +128,10 @@ pair_of ds d u pair =
       mid = k.front;
       post = k.rest;
       is = c.is ∙ ap (λ z. c.front ++ deed c.by c.act ∷ z) k.is;
-      none = λ p q a e h. pair.none (told p) (told q) e (sym k.before ∙ ap told h ∙ told_append p (deed a (tells (Def e pair.cell)) ∷ q));
+      none = λ p q a e act way h. pair.none (told p) (told q) e (sym k.before ∙ ap told h ∙ told_append p (deed a act ∷ q) ∙ ap (λ z. told p ++ z) (told_there a act (Def e pair.cell) q way));
     }
 
-module _ (S : Sites) (ds : List Deed) (placed : AreInPlace S ds) where
+module _ (S : Sites) (ds : List Deed) (placed : AreInPlace S ds) (finished : AreFinished S ds) where
   -- ---- makings
 
   given_is : (x j : ℕ) (c : Cell) (o : Option Local) → given_in x c o ≡ Some j → given_number c o ≡ j
@@ -201,8 +234,8 @@ module _ (S : Sites) (ds : List Deed) (placed : AreInPlace S ds) where
       named = subst (λ n. Contains v.names (S.leaf n pair.cell.index)) variable h.1;
     }
     given_here false e f h = record {
-      origin = origin_before pair.definer r.variable j pair.pre pair.first pair.mid (ap (made_in S r.variable) f ∙ ap (given_in r.variable pair.cell) dv ∙ not_given v.parameter (nat_eq v.variable r.variable) (Some j) e) (subst (λ n. last_made S pair.definer n pair.pre ≡ Some j) variable h.0.made);
-      named = subst (λ n. Contains v.names (S.leaf n pair.cell.index)) variable h.0.named;
+      origin = origin_before pair.definer r.variable j pair.pre pair.first pair.mid (ap (made_in S r.variable) f ∙ ap (given_in r.variable pair.cell) dv ∙ not_given v.parameter (nat_eq v.variable r.variable) (Some j) e) (subst (λ n. last_made S pair.definer n pair.pre ≡ Some j) variable h.made);
+      named = subst (λ n. Contains v.names (S.leaf n pair.cell.index)) variable h.named;
     }
 
     defined_at : At S pair.pre pair.definer pair.first
@@ -220,12 +253,18 @@ module _ (S : Sites) (ds : List Deed) (placed : AreInPlace S ds) where
     defined : Defined
     defined = defined_by_way pair.way
 
-    told_use : IsTold pair.last (Use u pair.cell pair.noted) → pair.last ≡ tells (Use u pair.cell pair.noted)
-    told_use (inl e) = e
-    told_use (inr e) = absurd (true≢false (sym (ap is_some (sym (subst (At S (pair.pre ++ D ∷ pair.mid) pair.user) e (placed (pair.pre ++ D ∷ pair.mid) pair.post U used_is)) ∙ ur))))
+    abbrev until : List Deed
+    until = pair.pre ++ D ∷ pair.mid
 
-    used_at : UsedAt S (pair.pre ++ D ∷ pair.mid) pair.user pair.cell (Some r)
-    used_at = subst (UsedAt S (pair.pre ++ D ∷ pair.mid) pair.user pair.cell) ur (subst (At S (pair.pre ++ D ∷ pair.mid) pair.user) (told_use pair.used) (placed (pair.pre ++ D ∷ pair.mid) pair.post U used_is))
+    last_at : At S until pair.user pair.last
+    last_at = placed until pair.post U used_is
+
+    used_by : IsTold pair.last (Use u pair.cell pair.noted) → (1 ≤ pair.user) × InPlace S until pair.user r pair.cell
+    used_by (inl e) = subst (UsedAt S until pair.user pair.cell) ur (subst (At S until pair.user) e last_at)
+    used_by (inr e) = let h = subst (IsUsedAgain S until pair.user u pair.cell) ur (subst (At S until pair.user) e last_at) in (h.active, h.place)
+
+    used_at : (1 ≤ pair.user) × InPlace S until pair.user r pair.cell
+    used_at = used_by pair.used
 
     -- one activation did both, and made no instance of the variable between
     record Alone : Type 0 where
@@ -281,13 +320,34 @@ module _ (S : Sites) (ds : List Deed) (placed : AreInPlace S ds) where
           ap (last_made S pair.user r.variable) (sym (append_assoc pair.pre (D ∷ []) t.front)) ∙ last_without S pair.user r.variable (pair.pre ++ D ∷ []) t.front none_before
           ∙ subst (λ a. last_made S a r.variable (pair.pre ++ D ∷ []) ≡ Some j) alone.one defined.origin.there
 
-      same_cell : InPlace S (pair.pre ++ D ∷ t.front) pair.user l k → l.names ≡ S.leaf l.variable k.index ∷ [] → Contains l.names name → IsStrong S r.variable name → ⊥
+      abbrev ahead_of : List Deed
+      ahead_of = pair.pre ++ D ∷ t.front
+
+      same_instance : InPlace S ahead_of pair.user l k → k.instance ≡ j
+      same_instance at = some_is k.instance j (sym (subst (λ n. last_made S pair.user n ahead_of ≡ Some k.instance) lv at.made) ∙ made_before)
+
+      same_cell : InPlace S ahead_of pair.user l k → l.names ≡ S.leaf l.variable k.index ∷ [] → Contains l.names name → IsStrong S r.variable name → ⊥
       same_cell at one has strong =
-          let instance : k.instance ≡ j = some_is k.instance j (sym (subst (λ n. last_made S pair.user n (pair.pre ++ D ∷ t.front) ≡ Some k.instance) lv at.made) ∙ made_before) in
           let leaf_is : S.leaf r.variable k.index ≡ name = ap (λ n. S.leaf n k.index) (sym lv) ∙ one_of (S.leaf l.variable k.index) name (subst (λ ns. Contains ns name) one has) in
           let index : k.index ≡ pair.cell.index = strong k.index pair.cell.index leaf_is refl in
-          let cell : k ≡ pair.cell = ap (λ i. record { instance = i; index = k.index }) instance ∙ ap (λ i. record { instance = j; index = i }) index in
-          pair.none t.front t.rest pair.user e (t.is ∙ ap (λ c. t.front ++ deed pair.user (tells (Def e c)) ∷ t.rest) cell)
+          let cell : k ≡ pair.cell = ap (λ i. record { instance = i; index = k.index }) (same_instance at) ∙ ap (λ i. record { instance = j; index = i }) index in
+          pair.none t.front t.rest pair.user e (tells (Def e k)) (inl (ap (λ c. tells (Def e c)) cell)) t.is
+
+      -- one that defines a structure
+      among_cells : (cells : List Cell) (rest : List Deed) → t.rest ++ U ∷ pair.post ≡ map (further pair.user e) cells ++ rest → Contains (k ∷ cells) pair.cell → ⊥
+      among_cells cells rest is (zero, lt, h) = pair.none t.front t.rest pair.user e (tells (Def e k)) (inl (ap (λ c. tells (Def e c)) h)) t.is
+      among_cells cells rest is (suc n, lt, h) =
+          let f = further_there pair.user e cells rest t.rest pair.post U (λ c. use_other pair.last pair.user e u pair.noted pair.cell c pair.user pair.used) is pair.cell (n, omega (arith, lt), h) in
+          let F : Deed = deed pair.user (repeats (Def e pair.cell)) in
+          pair.none (t.front ++ E ∷ f.front) f.rest pair.user e (repeats (Def e pair.cell)) (inr refl) (t.is ∙ ap (λ z. t.front ++ E ∷ z) f.is ∙ sym (append_assoc t.front (E ∷ f.front) (F ∷ f.rest)))
+
+      whole_cell : InPlace S ahead_of pair.user l k → IsWhole S (t.rest ++ U ∷ pair.post) pair.user e k l → Contains l.names name → IsStrong S r.variable name → ⊥
+      whole_cell at w has strong =
+          let i = pair.cell.index in
+          let has_it : Contains l.names (S.leaf l.variable i) = subst (λ n. Contains l.names (S.leaf n i)) (sym lv) has in
+          let strong_there : IsStrong S l.variable (S.leaf l.variable i) = subst (λ n. IsStrong S n (S.leaf n i)) (sym lv) strong in
+          let here : Contains (k ∷ w.cells) (record { instance = k.instance; index = i }) = w.all i has_it strong_there in
+          among_cells w.cells w.rest w.is (subst (λ n. Contains (k ∷ w.cells) (record { instance = n; index = i })) (same_instance at) here)
 
       not_making : (i : ℕ) → IsTold pair.first (Def d pair.cell) → pair.first ≡ makes l.variable i → ⊥
       not_making i (inl f) h = tells_not _ _ i (sym f ∙ h)
@@ -305,9 +365,14 @@ module _ (S : Sites) (ds : List Deed) (placed : AreInPlace S ds) where
                 no_made (makes l.variable i) i (ap (λ n. made_in S r.variable (makes n i)) lv ∙ makes_x i) (record { front = h.front; rest = h.rest ++ E ∷ t.rest; is = t.is ∙ ap (λ z. z ++ E ∷ t.rest) h.is ∙ append_assoc h.front (deed pair.user (makes l.variable i) ∷ h.rest) (E ∷ t.rest) }))
           ]
 
-      no_strong : (b : Bool) → l.parameter ≡ b → IsDefined S (pair.pre ++ D ∷ t.front) pair.user l k b → Contains l.names name → IsStrong S r.variable name → ⊥
-      no_strong true g h has strong = no_made (tells (Def e k)) k.instance (ap (given_in r.variable k) el ∙ both_true l.parameter (nat_eq l.variable r.variable) (Some k.instance) None g (ap (λ n. nat_eq n r.variable) lv ∙ same_eq r.variable)) t
-      no_strong false g h has strong = elim h.1 [ inl one ↦ same_cell h.0 one has strong | inr m ↦ made_again m.0 m.1 m.2 ]
+      finished_at : IsFinished S ahead_of (t.rest ++ U ∷ pair.post) pair.user e k l l.parameter
+      finished_at = finished ahead_of (t.rest ++ U ∷ pair.post) pair.user e k l between_is el
+
+      no_strong : (b : Bool) → l.parameter ≡ b → IsDefined S ahead_of pair.user l k b → IsFinished S ahead_of (t.rest ++ U ∷ pair.post) pair.user e k l b → Contains l.names name → IsStrong S r.variable name → ⊥
+      no_strong true g h f has strong = no_made (tells (Def e k)) k.instance (ap (given_in r.variable k) el ∙ both_true l.parameter (nat_eq l.variable r.variable) (Some k.instance) None g (ap (λ n. nat_eq n r.variable) lv ∙ same_eq r.variable)) t
+      no_strong false g h (inl (inl one)) has strong = same_cell h one has strong
+      no_strong false g h (inl (inr m)) has strong = made_again m.0 m.1 m.2
+      no_strong false g h (inr w) has strong = whole_cell h w has strong
 
     -- ---- the walk
 
@@ -322,54 +387,84 @@ module _ (S : Sites) (ds : List Deed) (placed : AreInPlace S ds) where
         let h = actions_there (own pair.user pair.mid) p q (action.Define e) is in
         let k = define_is h.act e h.gives in
         let t = subst (There pair.mid pair.user) k.1 (own_there pair.user pair.mid h.front h.rest h.act h.is) in
-        no_strong e k.0 l t el lv l.parameter refl (between_at e k.0 l t el lv) has strong
+        no_strong e k.0 l t el lv l.parameter refl (between_at e k.0 l t el lv) (finished_at e k.0 l t el lv) has strong
 
-    -- what the activation did by itself, read
-    abbrev behind_it : List Action
-    behind_it = readings (own pair.user pair.mid) ++ action.Use u ∷ readings (own pair.user pair.post)
-
-    own_is : own pair.user ds ≡ own pair.user pair.pre ++ pair.first ∷ (own pair.user pair.mid ++ tells (Use u pair.cell pair.noted) ∷ own pair.user pair.post)
-    own_is =
-        ap (own pair.user) pair.is ∙ own_after (pair.mid ++ U ∷ pair.post)
-        ∙ ap (λ z. own pair.user pair.pre ++ pair.first ∷ z) (own_cut pair.user pair.mid pair.post pair.last ∙ ap (λ z. own pair.user pair.mid ++ z ∷ own pair.user pair.post) (told_use pair.used))
-
-    read_is : readings (own pair.user ds) ≡ readings (own pair.user pair.pre) ++ read_as pair.first behind_it
-    read_is =
-        ap readings own_is ∙ readings_append (own pair.user pair.pre) _
-        ∙ ap (λ z. readings (own pair.user pair.pre) ++ read_as pair.first z) (readings_append (own pair.user pair.mid) (tells (Use u pair.cell pair.noted) ∷ own pair.user pair.post))
-
+    -- what the activation did by itself, read: up to the definition, whatever it did then
     record Front : Type 0 where
       ahead : List Action
-      is : readings (own pair.user ds) ≡ ahead ++ action.Define d ∷ behind_it
+      is : (q : List Deed) → readings (own pair.user (pair.pre ++ D ∷ q)) ≡ ahead ++ action.Define d ∷ readings (own pair.user q)
+
+    read_is : (q : List Deed) → readings (own pair.user (pair.pre ++ D ∷ q)) ≡ readings (own pair.user pair.pre) ++ read_as pair.first (readings (own pair.user q))
+    read_is q = ap readings (own_after q) ∙ readings_append (own pair.user pair.pre) (pair.first ∷ own pair.user q)
 
     front_by : IsTold pair.first (Def d pair.cell) → Front
-    front_by (inl f) = record { ahead = readings (own pair.user pair.pre); is = read_is ∙ ap (λ a. readings (own pair.user pair.pre) ++ read_as a behind_it) f }
+    front_by (inl f) = record { ahead = readings (own pair.user pair.pre); is = λ q. read_is q ∙ ap (λ a. readings (own pair.user pair.pre) ++ read_as a (readings (own pair.user q))) f }
     front_by (inr f) =
         let h = subst (IsRepeated S pair.pre pair.definer d pair.cell) dv (subst (At S pair.pre pair.definer) f defined_at) in
+        let last = subst (λ a. readings (own a pair.pre) ≡ h.before ++ action.Define d ∷ []) alone.one h.last in
         record {
           ahead = h.before;
-          is = read_is ∙ ap (λ a. readings (own pair.user pair.pre) ++ read_as a behind_it) f
-              ∙ ap (λ z. z ++ behind_it) (subst (λ a. readings (own a pair.pre) ≡ h.before ++ action.Define d ∷ []) alone.one h.last) ∙ append_assoc h.before (action.Define d ∷ []) behind_it;
+          is = λ q. let rest = readings (own pair.user q) in
+              read_is q ∙ ap (λ a. readings (own pair.user pair.pre) ++ read_as a rest) f ∙ ap (λ z. z ++ rest) last ∙ append_assoc h.before (action.Define d ∷ []) rest;
         }
 
-    listed_by : (P : Source) → (own pair.user ds ≡ []) ⊎ IsWalking P ds pair.user → Front → (f : ℕ) × IsListed P S f d v u r
-    listed_by P (inl none) h = absurd (longer (own pair.user pair.pre) _ pair.first (sym none ∙ own_is))
+    front : Front
+    front = front_by pair.way
+
+    -- between the definition and the use, which may be the last thing that was done before a further event of it
+    record Ended : Type 0 where
+      between : List Action
+      is : readings (own pair.user (pair.mid ++ U ∷ pair.post)) ≡ between ++ action.Use u ∷ readings (own pair.user pair.post)
+      back : (p q : List Action) (a : Action) → between ≡ p ++ a ∷ q → (s : List Action) × (readings (own pair.user pair.mid) ≡ p ++ a ∷ s)
+
+    read_use : readings (own pair.user (pair.mid ++ U ∷ pair.post)) ≡ readings (own pair.user pair.mid) ++ read_as pair.last (readings (own pair.user pair.post))
+    read_use = ap readings (own_cut pair.user pair.mid pair.post pair.last) ∙ readings_append (own pair.user pair.mid) (pair.last ∷ own pair.user pair.post)
+
+    -- the use is among what was read before its further event
+    again : (prior : List Action) → readings (own pair.user until) ≡ prior ++ action.Use u ∷ [] → (r : List Action) × (readings (own pair.user pair.mid) ≡ r ++ action.Use u ∷ [])
+    again prior e =
+        let all : front.ahead ++ action.Define d ∷ readings (own pair.user pair.mid) ≡ prior ++ action.Use u ∷ [] = sym (front.is pair.mid) ∙ e in
+        elim (snoc_split prior (action.Use u) front.ahead (readings (own pair.user pair.mid)) (action.Define d) (sym all)) [
+          | inl s ↦ absurd (no_action d u s.1)
+          | inr s ↦ (
+              let same : action.Define d ∷ readings (own pair.user pair.mid) ≡ action.Define d ∷ (s.0 ++ action.Use u ∷ []) = cancel front.ahead _ _ (all ∙ ap (λ z. z ++ action.Use u ∷ []) s.1 ∙ append_assoc front.ahead (action.Define d ∷ s.0) (action.Use u ∷ [])) in
+              (s.0, tails (action.Define d) (action.Define d) _ _ same))
+        ]
+
+    ended_by : IsTold pair.last (Use u pair.cell pair.noted) → Ended
+    ended_by (inl f) = record {
+      between = readings (own pair.user pair.mid);
+      is = read_use ∙ ap (λ a. readings (own pair.user pair.mid) ++ read_as a (readings (own pair.user pair.post))) f;
+      back = λ p q a e. (q, e);
+    }
+    ended_by (inr f) =
+        let h = subst (IsUsedAgain S until pair.user u pair.cell) ur (subst (At S until pair.user) f last_at) in
+        let g = again h.before h.last in
+        let rest = readings (own pair.user pair.post) in
+        record {
+          between = g.0;
+          is = read_use ∙ ap (λ a. readings (own pair.user pair.mid) ++ read_as a rest) f ∙ ap (λ z. z ++ rest) g.1 ∙ append_assoc g.0 (action.Use u ∷ []) rest;
+          back = λ p q a e. (q ++ action.Use u ∷ [], g.1 ∙ ap (λ z. z ++ action.Use u ∷ []) e ∙ append_assoc p (a ∷ q) (action.Use u ∷ []));
+        }
+
+    listed_by : (P : Source) → (own pair.user ds ≡ []) ⊎ IsWalking P ds pair.user → Ended → (f : ℕ) × IsListed P S f d v u r
+    listed_by P (inl none) h = absurd (longer (own pair.user pair.pre) _ pair.first (sym none ∙ ap (own pair.user) pair.is ∙ own_after (pair.mid ++ U ∷ pair.post)))
     listed_by P (inr w) h = (
       w.function,
       record {
-        before = h.ahead;
-        between = readings (own pair.user pair.mid);
+        before = front.ahead;
+        between = h.between;
         behind = readings (own pair.user pair.post);
-        walk = subst (Walk P.tables P.unit w.function) (sym (ap readings w.own_is) ∙ h.is) w.walk;
+        walk = subst (Walk P.tables P.unit w.function) (sym (ap readings w.own_is) ∙ ap (λ z. readings (own pair.user z)) pair.is ∙ front.is (pair.mid ++ U ∷ pair.post) ∙ ap (λ z. front.ahead ++ action.Define d ∷ z) h.is) w.walk;
         name = name;
         in_definition = defined.named;
         in_use = used_at.1.named;
-        no_kill = kills_none;
-        no_define = defines_none;
+        no_kill = λ p q e. let b = h.back p q (action.Kill r.variable) e in kills_none p b.0 b.1;
+        no_define = λ p q e l is. let b = h.back p q (action.Define e) is in defines_none p b.0 e l b.1;
       },
     )
 
 pub pairs_are_listed : PairsAreListed
-pairs_are_listed P S ds placed walks d u v r dv ur variable has =
+pairs_are_listed P S ds placed finished walks d u v r dv ur variable has =
     let pair = pair_of ds d u has in
-    listed_by S ds placed d u v r dv ur variable pair P (walks pair.user (used_at S ds placed d u v r dv ur variable pair).0) (front_by S ds placed d u v r dv ur variable pair pair.way)
+    listed_by S ds placed finished d u v r dv ur variable pair P (walks pair.user (used_at S ds placed finished d u v r dv ur variable pair).0) (ended_by S ds placed finished d u v r dv ur variable pair pair.used)

@@ -5,6 +5,7 @@ use Rattle.c_syntax.specs.declared.tree.UnaryOp.TheVariants as front
 use Rattle.c_syntax.specs.Shape.{unary, before, size_of, Infix, assign, Access, dot, arrow, NodeShape, node, ExprShape, leaf, paren, call, prefix, size_of_type, cast, suffix, two, choose, probe, index, field, behind, NodeShapes, no_nodes, more_nodes, MaybeNode, no_node, one_node, DeclShape, decl, DeclShapes, no_decls, more_decls, DeclaratorShape, declarator, DeclaratorShapes, no_declarators, more_declarators, arrays, function, MaybeInit, no_init, one_init, InitShape, one, listed, StmtShape, stmt, FormShape, compound, simply, when, either, while, do_while, for, switch, break, continue, return, CompoundShape, braces, ItemShapes, no_items, more_items, ExternalShape, defined, declared}
 use Rattle.c_walk.specs.declared.around.Taken.TheVariants.{Read, Addressed}
 use Rattle.c_walk.specs.Places.{holds_structure}
+use Rattle.flow_walks.specs.Expressions.{holds_scalar}
 use Rattle.flow_calls.specs.Orderly.{is_used, is_copied}
 
 -- ---- expressions
@@ -17,9 +18,9 @@ abbrev pub Unread : Access → NodeShape → Type 0
 Unread dot a = is_used Read a ≡ false
 Unread arrow a = Unit {0}
 
--- a structure to the left of `=` is copied, and so is the one to the right
+-- a structure to the left of `=` is copied, and so is the one to the right; else a scalar stands there
 abbrev pub CopiesApt : Infix → NodeShape → NodeShape → Type 0
-CopiesApt (assign None) a b = holds_structure a ≡ true → (is_copied a ≡ true) × (is_copied b ≡ true)
+CopiesApt (assign None) a b = (holds_structure a ≡ true → (is_copied a ≡ true) × (is_copied b ≡ true)) × (holds_structure a ≡ false → holds_scalar a ≡ true)
 CopiesApt u a b = Unit {0}
 
 abbrev mutual

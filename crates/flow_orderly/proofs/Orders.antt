@@ -1,4 +1,4 @@
--- A program that is fit and apt, and whose strings and lists give values, is orderly.
+-- A program that is fit and apt, and whose initialisers give values, is orderly.
 use Rattle.std.proofs.Common.{◌≡◌, ℕ, suc, List, [], ◌∷◌, Bool, true, false, Option, Some, None, refl}
 use Rattle.std.specs.Prelude.{◌||◌, if◌then◌else◌}
 use Rattle.c_syntax.specs.declared.tree.UnaryOp.TheVariants as front
@@ -83,7 +83,7 @@ mutual
   form_orderly r n (suffix a (field dot x q)) h g = (orderly Read a h g.0, g.1)
   form_orderly r n (suffix a (field arrow x q)) h g = orderly Read a h g.0
   form_orderly r n (suffix a (behind u)) h g = (orderly Changed a h g, changed_scalar a h g)
-  form_orderly r n (two (assign None) a b) h g = (orderly Written a h.0 g.0, written_place a h.0 g.0, orderly _ b h.1 g.1, g.2)
+  form_orderly r n (two (assign None) a b) h g = (orderly Written a h.0 g.0, written_place a h.0 g.0, orderly _ b h.1 g.1, g.2.0, g.2.1)
   form_orderly r n (two (assign (Some u)) a b) h g = (orderly Changed a h.0 g.0, changed_scalar a h.0 g.0, orderly Read b h.1 g.1)
   form_orderly r n (two (plain u) a b) h g = (orderly Read a h.0 g.0, orderly Read b h.1 g.1)
   form_orderly r n (two and a b) h g = (orderly Read a h.0 g.0, orderly Read b h.1 g.1)
@@ -107,8 +107,8 @@ module _ (t : TablesShape) (b : List Bound) where
   init_orderly (array k n) (one a) h g v = v
   init_orderly (int k) (one a) h g v = orderly Read a h g
   init_orderly (pointer k) (one a) h g v = orderly Read a h g
-  init_orderly (structure n) (one a) h g v = orderly Read a h g
-  init_orderly nothing (one a) h g v = orderly Read a h g
+  init_orderly (structure n) (one a) h g v = v
+  init_orderly nothing (one a) h g v = v
   init_orderly y (listed p items last) h g v = v
 
   variable_orderly : (y : Option TypeOf) (stars : _) (x : _) (ls : _) (i : MaybeInit) → IsFitDeclarator (declarator stars x (arrays ls) i) → IsAptMaybeInit i → HasInitial t b y i → IsOrderlyVariable t b y i

@@ -1,6 +1,7 @@
--- Programs in which each string and each list in braces that initialises a local variable gives some cell of it a value.
+-- Programs in which each string and each list in braces that initialises a local variable gives some cell of it a value, and no other expression
+-- initialises one that is no scalar.
 use Rattle.std.specs.Prelude.{◌≡◌, ℕ, suc, ◌||◌, List, [], ◌∷◌, Bool, false, Option, Some, None}
-use Rattle.c_syntax.specs.Shape.{TypeOf, array, NodeShape, DeclShape, decl, DeclShapes, no_decls, more_decls, DeclaratorShape, declarator, DeclaratorShapes, no_declarators, more_declarators, DeclFormShape, arrays, function, MaybeInit, no_init, one_init, InitShape, one, listed, StmtShape, stmt, FormShape, compound, simply, when, either, while, do_while, for, switch, break, continue, return, CompoundShape, braces, ItemShapes, no_items, more_items, ExternalShape, defined, declared}
+use Rattle.c_syntax.specs.Shape.{TypeOf, array, structure, nothing, NodeShape, DeclShape, decl, DeclShapes, no_decls, more_decls, DeclaratorShape, declarator, DeclaratorShapes, no_declarators, more_declarators, DeclFormShape, arrays, function, MaybeInit, no_init, one_init, InitShape, one, listed, StmtShape, stmt, FormShape, compound, simply, when, either, while, do_while, for, switch, break, continue, return, CompoundShape, braces, ItemShapes, no_items, more_items, ExternalShape, defined, declared}
 use Rattle.c_tables.specs.Tables.{TablesShape}
 use Rattle.c_tables.specs.Rows.{text_of}
 use Rattle.c_walk.specs.declared.around.Around.{Around}
@@ -20,14 +21,16 @@ use Rattle.flow_calls.specs.Orderly.{HasValue, IsString}
 
 -- ---- declarations
 
--- an array begins with a string, of which some cell is a char
-abbrev pub HasChars : TablesShape → List Bound → TypeOf → NodeShape → Type 0
-HasChars t b (array k n) a = IsString a × HasValue (one_cells t b (array k n) a)
-HasChars t b y a = Unit {0}
+-- by itself an expression initialises a scalar; or it is a string of which some cell is a char, and initialises an array
+abbrev pub FitsOne : TablesShape → List Bound → TypeOf → NodeShape → Type 0
+FitsOne t b (array k n) a = IsString a × HasValue (one_cells t b (array k n) a)
+FitsOne t b (structure n) a = ⊥
+FitsOne t b nothing a = ⊥
+FitsOne t b y a = Unit {0}
 
 -- of a variable of that type, where these are the variables of file scope
 abbrev pub IsInitialised : TablesShape → List Bound → TypeOf → InitShape → Type 0
-IsInitialised t b y (one a) = HasChars t b y a
+IsInitialised t b y (one a) = FitsOne t b y a
 IsInitialised t b y (listed p items last) = HasValue (init_cells t b y (listed p items last))
 
 abbrev pub HasInitial : TablesShape → List Bound → Option TypeOf → MaybeInit → Type 0

@@ -10,7 +10,8 @@ use Rattle.flow_calls.specs.Orderly.{IsOrderlyProgram}
 use Rattle.flow_calls.specs.Walking.{IsWalking, IsLeaving}
 use Rattle.flow_orderly.specs.Initialised.{AreInitialised}
 
--- typed without complaint and not refused, it is orderly, where its strings and lists give their variables values
+-- typed without complaint and not refused, it is orderly, where its strings and lists give their variables values, and other expressions
+-- initialise scalars alone
 abbrev pub AcceptedIsOrderly : Type 0
 AcceptedIsOrderly = (P : Source) → IsProgram P.unit P.tables → IsTaken P → AreInitialised P → IsOrderlyProgram P
 

@@ -3,7 +3,8 @@
 ghost use Rattle.flow_orderly.specs.Laws.{AcceptedIsOrderly, AcceptedCallsWalk, AcceptedCallsLeave};
 
 /// A program of the checker that isn't refused is orderly, where each string and list that initialises a local variable
-/// gives it a value; so what each call of a run did by itself is a walk of its function.
+/// gives it a value, and no other expression initialises one that is no scalar; so what each call of a run did by itself
+/// is a walk of its function.
 #[tactic(auto, using(crate::proofs::Laws::accepted_is_orderly))]
 pub fn accepted_is_orderly()
     ensures orderly { AcceptedIsOrderly }

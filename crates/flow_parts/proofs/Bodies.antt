@@ -1,5 +1,5 @@
 -- Each site of a body stands where the walk counts it.
-use Rattle.std.proofs.Common.{ℕ, suc, ◌≡◌, List, [], ◌∷◌, refl, sym, subst, ap, ◌∙◌, arith, Option, Some, None, Bool, true, false}
+use Rattle.std.proofs.Common.{ℕ, suc, ◌<◌, ◌≡◌, List, [], ◌∷◌, refl, sym, subst, ap, ◌∙◌, arith, Option, Some, None, Bool, true, false}
 use Rattle.std.specs.Prelude.{◌||◌, Contains, option_map, if◌then◌else◌}
 use Rattle.std.proofs.lemmas.Bool.{true≢false}
 use Rattle.c_syntax.specs.declared.text.Text.{Text}
@@ -17,19 +17,23 @@ use Rattle.c_walk.specs.Counted.{next_def}
 use Rattle.c_walk.specs.Walking.{walk_node, walk_test, walk_maybe, walk_loop_test, walk_maybe_test, walk_step}
 use Rattle.c_walk.specs.Stating.{whole_of, whole, with_variable, with_whole_def, walk_maybe_init, walk_declarator, walk_declarators, walk_decl, walk_decls, splits, is_labelled, pos_of_stmt, walk_choice, walk_stmt, walk_body, walk_part, walk_compound, walk_items}
 use Rattle.c_meaning.specs.State.{Bound}
-use Rattle.c_meaning.specs.Layout.{kind_in, variable_kind}
+use Rattle.c_sites.specs.Names.{site_leaves}
+use Rattle.c_meaning.specs.Layout.{cells, kind_in, variable_kind}
 use Rattle.c_meaning.specs.Calls.{Source}
-use Rattle.flow_calls.specs.Orderly.{IsString, IsOrderly, IsOrderlyVariable, IsOrderlyDeclarator, AreOrderlyDeclarators, IsOrderlyDecl, AreOrderlyDecls, IsOrderlyStmt, IsOrderlyBody, IsOrderlyPart, IsOrderlyCompound, AreOrderlyItems}
-use Rattle.flow_places.specs.Declared.{DefinesBy, IsInitial, IsSitedVariable, IsSitedDeclarator, AreSitedDeclarators, IsSitedDecl, AreSitedDecls, IsSitedStmt, IsSitedBody, IsSitedPart, IsSitedCompound, AreSitedItems}
+use Rattle.flow_calls.specs.Orderly.{IsString, IsOrderly, IsOrderlyInit, IsOrderlyVariable, IsOrderlyDeclarator, AreOrderlyDeclarators, IsOrderlyDecl, AreOrderlyDecls, IsOrderlyStmt, IsOrderlyBody, IsOrderlyPart, IsOrderlyCompound, AreOrderlyItems}
+use Rattle.flow_initial.specs.Lengths.{AreFilled}
+use Rattle.flow_places.specs.Declared.{AreNamed, DefinesBy, IsInitial, IsSitedVariable, IsSitedDeclarator, AreSitedDeclarators, IsSitedDecl, AreSitedDecls, IsSitedStmt, IsSitedBody, IsSitedPart, IsSitedCompound, AreSitedItems}
 use Rattle.flow_kinds.specs.Kinded.{IsKinded}
 use Rattle.flow_kinds.specs.Programs.{IsKindedMaybeInit, IsKindedDeclarator, AreKindedDeclarators, IsKindedDecl, AreKindedDecls, IsKindedStmt, IsKindedBody, IsKindedCompound, AreKindedItems}
 use Rattle.flow_elements.specs.Names.{AreLayered}
-use Rattle.flow_leaves.specs.Leaves.{name_in}
-use Rattle.flow_locals.specs.Locals as locals
-use Rattle.flow_parts.specs.Own.{IsOwnNode, IsOwnMaybeInit, IsOwnDeclarator, AreOwnDeclarators, IsOwnDecl, AreOwnDecls, IsOwnStmt, IsOwnBody, IsOwnCompound, AreOwnItems}
-use Rattle.flow_parts.specs.Parts.{leaf_at, is_part, site_of, part_of}
+use Rattle.flow_leaves.specs.Leaves.{name_in, leaf_in}
+use Rattle.flow_leaves.proofs.Wholes.{whole_named}
+use Rattle.flow_owned.specs.Own as owned
+use Rattle.flow_owned.specs.Own.{IsOwnNode, IsOwnMaybeInit, IsOwnDeclarator, AreOwnDeclarators, IsOwnDecl, AreOwnDecls, IsOwnStmt, IsOwnBody, IsOwnCompound, AreOwnItems}
+use Rattle.flow_parts.specs.Items.{is_among}
+use Rattle.flow_parts.specs.Parts.{leaf_at, site_of, part_of}
 use Rattle.flow_parts.proofs.More.{More, on_further, decision_on, variable_on, whole_on, test_node_on, maybe_on, maybe_test_on, loop_test_on, step_on, choice_on, node_on, declarator_on, declarators_on, decl_on, decls_on, block_on, block_if_on, stmt_on, part_on, items_on}
-use Rattle.flow_parts.proofs.Sites.{AreOutside, Body, S, outside, R, part_parts, def_value, sited, test_sited, maybe_sited, loop_sited, step_sited}
+use Rattle.flow_parts.proofs.Sites.{AreOutside, Body, S, outside, R, one_leaf, def_value, sited, test_sited, maybe_sited, loop_sited, step_sited}
 
 string_orderly : (a : NodeShape) → IsString a → IsOrderly a
 string_orderly (node p o n (leaf (str x))) h = tt
@@ -50,7 +54,7 @@ string_orderly (node p o n (probe u a)) h = absurd h
 record IsWhole (m : ℕ) (o : Option VariableShape) (d : Direct) : Type 0 where
   variable : d.variable ≡ m
   kind : kind_in o ≡ Some d.kind
-  name : d.name ≡ locals.name_in o
+  name : d.name ≡ owned.name_in o
 
 whole_row : (m : ℕ) (v : VariableShape) → IsWhole m (Some v) (whole_of m v)
 whole_row m v = record { variable = refl; kind = refl; name = refl }
@@ -63,74 +67,88 @@ whole_is m None d e = cc
 whole_is m (Some v) d e = subst (IsWhole m (Some v)) (same_direct (whole_of m v) d e) (whole_row m v)
 
 -- a scalar's one cell has its name
-own_name : (t : TablesShape) (x : Text) (y : TypeOf) → is_scalar y ≡ true → name_in t x (Some y) 0 ≡ x
+pub own_name : (t : TablesShape) (x : Text) (y : TypeOf) → is_scalar y ≡ true → name_in t x (Some y) 0 ≡ x
 own_name t x (int k) e = refl
 own_name t x (pointer k) e = refl
 own_name t x (array k n) e = absurd (true≢false (sym e))
 own_name t x (structure n) e = absurd (true≢false (sym e))
 own_name t x nothing e = absurd (true≢false (sym e))
 
-one_there : (x y : Text) → x ≡ y → Contains (x ∷ []) y
+pub one_there : (x y : Text) → x ≡ y → Contains (x ∷ []) y
 one_there x y e = (0, omega arith, e)
 
 module _ (P : Source) (F : List Bound) where
-  -- ---- a scalar variable's definition at its name
-
-  defines_by : (y : TypeOf) (i : InitShape) (d : Direct) → is_scalar y ≡ true → d.name ≡ leaf_at P.tables d.variable 0 → DefinesBy (S P F) P.tables y i (site_of d)
-  defines_by (int k) (one a) d e h = ap (λ x. x ∷ []) h
-  defines_by (pointer k) (one a) d e h = ap (λ x. x ∷ []) h
-  defines_by (int k) (listed p items last) d e h = λ i lt. one_there d.name (leaf_at P.tables d.variable i) (h ∙ ap (leaf_at P.tables d.variable) (omega (arith, lt)))
-  defines_by (pointer k) (listed p items last) d e h = λ i lt. one_there d.name (leaf_at P.tables d.variable i) (h ∙ ap (leaf_at P.tables d.variable) (omega (arith, lt)))
-  defines_by (array k n) i d e h = absurd (true≢false (sym e))
-  defines_by (structure n) i d e h = absurd (true≢false (sym e))
-  defines_by nothing i d e h = absurd (true≢false (sym e))
+  -- ---- a variable's definition at its name
 
   same_kind : (y z : TypeOf) → Some y ≡ Some z → z ≡ y
   same_kind y z e = cc
 
+  row_name : (n : ℕ) (d : Direct) → IsWhole n (row P.tables.variables n) d → d.name ≡ owned.name_in (row P.tables.variables d.variable)
+  row_name n d w = w.name ∙ ap (λ (m : ℕ). owned.name_in (row P.tables.variables m)) (sym w.variable)
+
+  row_kind : (n : ℕ) (d : Direct) → IsWhole n (row P.tables.variables n) d → variable_kind P.tables d.variable ≡ Some d.kind
+  row_kind n d w = ap (variable_kind P.tables) w.variable ∙ w.kind
+
   -- the name at the first cell of a scalar variable
   first_name : (n : ℕ) (d : Direct) → IsWhole n (row P.tables.variables n) d → is_scalar d.kind ≡ true → d.name ≡ leaf_at P.tables d.variable 0
   first_name n d w e =
-      let x = locals.name_in (row P.tables.variables d.variable) in
-      let named : d.name ≡ x = w.name ∙ ap (λ (m : ℕ). locals.name_in (row P.tables.variables m)) (sym w.variable) in
-      let kind : variable_kind P.tables d.variable ≡ Some d.kind = ap (variable_kind P.tables) w.variable ∙ w.kind in
-      named ∙ sym (own_name P.tables x d.kind e) ∙ ap (λ k. name_in P.tables x k 0) (sym kind)
+      let x = owned.name_in (row P.tables.variables d.variable) in
+      row_name n d w ∙ sym (own_name P.tables x d.kind e) ∙ ap (λ k. name_in P.tables x k 0) (sym (row_kind n d w))
 
-  initial_if : (y : TypeOf) (i : InitShape) (n : ℕ) (d : Direct) (b : Bool) → is_part (outside P F) d ≡ b → IsWhole n (row P.tables.variables n) d → variable_kind P.tables n ≡ Some y → IsInitial (S P F) P.tables n y i (if b then Some (site_of d) else None)
-  initial_if y i n d true e w k =
-      let p = part_parts P F d e in
-      let is : d.kind ≡ y = same_kind y d.kind (sym k ∙ w.kind) in
-      (w.variable, refl, defines_by y i d (ap is_scalar (sym is) ∙ p.0) (first_name n d w p.0))
-  initial_if y i n d false e w k = tt
+  scalar_names : (n : ℕ) (d : Direct) → IsWhole n (row P.tables.variables n) d → is_scalar d.kind ≡ true → site_leaves P.tables.structures (Some d) ≡ leaf_at P.tables d.variable 0 ∷ []
+  scalar_names n d w e = one_leaf P.tables.structures d.name d.kind e ∙ ap (λ x. x ∷ []) (first_name n d w e)
 
-  initial_told : (y : TypeOf) (i : InitShape) (n : ℕ) (o : Option Direct) → ((d : Direct) → o ≡ Some d → IsWhole n (row P.tables.variables n) d) → variable_kind P.tables n ≡ Some y → IsInitial (S P F) P.tables n y i (part_of (outside P F) o)
-  initial_told y i n None h k = tt
-  initial_told y i n (Some d) h k = initial_if y i n d (is_part (outside P F) d) refl (h d refl) k
+  module _ (layered : AreLayered P.tables) where
+    -- each cell of a variable has one of its leaf names
+    all_named : (n : ℕ) (d : Direct) → IsWhole n (row P.tables.variables n) d → (y : TypeOf) → d.kind ≡ y → AreNamed (S P F) P.tables y (site_of P.tables false d)
+    all_named n d w y e = λ i lt.
+        subst (λ (x : Text). Contains (site_leaves P.tables.structures (Some d)) (leaf_in P.tables x d.variable i)) (row_name n d w)
+        (whole_named P.tables layered d (row_kind n d w) i (subst (λ (k : TypeOf). i < cells P.tables k) (sym e) lt))
 
-  module _ (layered : AreLayered P.tables) (free : AreOutside P F) (start end : Walked) (body : Body P F start end) where
-    initial_sited : (c : Around) (x : Option Named) (y : TypeOf) (i : InitShape) (n : ℕ) (w : Walked) → w.variables ≡ n → variable_kind P.tables n ≡ Some y → More start w → More (with_whole_def P.tables c.function x w) end → IsInitial (S P F) P.tables n y i ((S P F).defined (next_def w))
-    initial_sited c x y i n w e k lo m =
-        subst (IsInitial (S P F) P.tables n y i) (sym (def_value P F layered free start end body c.function (name_pos first_place x) (whole P.tables w.variables) w m lo))
-        (initial_told y i n (whole P.tables w.variables) (λ d h. whole_is n (row P.tables.variables n) d (ap (whole P.tables) (sym e) ∙ h)) k)
+    defines_by : (n : ℕ) (d : Direct) → IsWhole n (row P.tables.variables n) d → (y : TypeOf) → d.kind ≡ y → (i : InitShape) → IsOrderlyInit P.tables F y i → DefinesBy (S P F) P.tables y i (site_of P.tables false d)
+    defines_by n d w (int k) e (one a) g = scalar_names n d w (ap is_scalar e)
+    defines_by n d w (pointer k) e (one a) g = scalar_names n d w (ap is_scalar e)
+    defines_by n d w (array k m) e (one a) g = all_named n d w (array k m) e
+    defines_by n d w (structure m) e (one a) g = absurd g
+    defines_by n d w nothing e (one a) g = absurd g
+    defines_by n d w (int k) e (listed p items last) g = all_named n d w (int k) e
+    defines_by n d w (pointer k) e (listed p items last) g = all_named n d w (pointer k) e
+    defines_by n d w (array k m) e (listed p items last) g = all_named n d w (array k m) e
+    defines_by n d w (structure m) e (listed p items last) g = all_named n d w (structure m) e
+    defines_by n d w nothing e (listed p items last) g = all_named n d w nothing e
+
+    initial_if : (y : TypeOf) (i : InitShape) → IsOrderlyInit P.tables F y i → (n : ℕ) (d : Direct) (b : Bool) → IsWhole n (row P.tables.variables n) d → variable_kind P.tables n ≡ Some y → IsInitial (S P F) P.tables n y i (if b then None else Some (site_of P.tables false d))
+    initial_if y i g n d true w k = tt
+    initial_if y i g n d false w k = (w.variable, refl, defines_by n d w y (same_kind y d.kind (sym k ∙ w.kind)) i g)
+
+    initial_told : (y : TypeOf) (i : InitShape) → IsOrderlyInit P.tables F y i → (n : ℕ) (o : Option Direct) → ((d : Direct) → o ≡ Some d → IsWhole n (row P.tables.variables n) d) → variable_kind P.tables n ≡ Some y → IsInitial (S P F) P.tables n y i (part_of P.tables (outside P F) o)
+    initial_told y i g n None h k = tt
+    initial_told y i g n (Some d) h k = initial_if y i g n d (is_among d.variable (outside P F)) (h d refl) k
+
+  module _ (layered : AreLayered P.tables) (filled : AreFilled P.tables) (free : AreOutside P F) (start end : Walked) (body : Body P F start end) where
+    initial_sited : (c : Around) (x : Option Named) (y : TypeOf) (i : InitShape) → IsOrderlyInit P.tables F y i → (n : ℕ) (w : Walked) → w.variables ≡ n → variable_kind P.tables n ≡ Some y → More start w → More (with_whole_def P.tables c.function x w) end → IsInitial (S P F) P.tables n y i ((S P F).defined (next_def w))
+    initial_sited c x y i g n w e k lo m =
+        subst (IsInitial (S P F) P.tables n y i) (sym (def_value P F layered filled free start end body c.function (name_pos first_place x) (whole P.tables w.variables) w m lo))
+        (initial_told layered y i g n (whole P.tables w.variables) (λ d h. whole_is n (row P.tables.variables n) d (ap (whole P.tables) (sym e) ∙ h)) k)
 
     -- ---- declarations
 
-    value_sited : (c : Around) (x : Option Named) (y : TypeOf) (a : NodeShape) (n : ℕ) (w : Walked) → IsOrderly a → IsKinded P.tables a → IsOwnNode (R P F) a → w.variables ≡ n → variable_kind P.tables n ≡ Some y → More start w → More (walk_maybe_init P.tables c x (one_init (one a)) w) end
+    value_sited : (c : Around) (x : Option Named) (y : TypeOf) (a : NodeShape) (n : ℕ) (w : Walked) → IsOrderlyInit P.tables F y (one a) → IsOrderly a → IsKinded P.tables a → IsOwnNode (R P F) a → w.variables ≡ n → variable_kind P.tables n ≡ Some y → More start w → More (walk_maybe_init P.tables c x (one_init (one a)) w) end
         → IsSitedVariable (S P F) F P.tables c x n (Some y) (one_init (one a)) w
-    value_sited c x y a n w g h j e k lo m =
-        let v = with_whole_def P.tables c.function x w in
-        (initial_sited c x y (one a) n w e k lo (on_further v (walk_node c Read a v) end (node_on c Read a v) m), sited P F layered free start end body c Read a v g h j (on_further start w v lo (whole_on P.tables c.function x w)) m)
+    value_sited c x y a n w v g h j e k lo m =
+        let u = with_whole_def P.tables c.function x w in
+        (initial_sited c x y (one a) v n w e k lo (on_further u (walk_node c Read a u) end (node_on c Read a u) m), sited P F layered filled free start end body c Read a u g h j (on_further start w u lo (whole_on P.tables c.function x w)) m)
 
     variable_sited : (c : Around) (x : Option Named) (o : Option TypeOf) (init : MaybeInit) (n : ℕ) (w : Walked) → w.variables ≡ n → variable_kind P.tables n ≡ o → IsOrderlyVariable P.tables F o init → IsKindedMaybeInit P.tables init → IsOwnMaybeInit (R P F) init → More start w → More (walk_maybe_init P.tables c x init w) end
         → IsSitedVariable (S P F) F P.tables c x n o init w
     variable_sited c x None init n w e k g h j lo m = tt
     variable_sited c x (Some y) no_init n w e k g h j lo m = tt
-    variable_sited c x (Some (array t z)) (one_init (one a)) n w e k g h j lo m = value_sited c x (array t z) a n w (string_orderly a g.0) h j e k lo m
-    variable_sited c x (Some (int t)) (one_init (one a)) n w e k g h j lo m = value_sited c x (int t) a n w g h j e k lo m
-    variable_sited c x (Some (pointer t)) (one_init (one a)) n w e k g h j lo m = value_sited c x (pointer t) a n w g h j e k lo m
-    variable_sited c x (Some (structure z)) (one_init (one a)) n w e k g h j lo m = value_sited c x (structure z) a n w g h j e k lo m
-    variable_sited c x (Some nothing) (one_init (one a)) n w e k g h j lo m = value_sited c x nothing a n w g h j e k lo m
-    variable_sited c x (Some y) (one_init (listed p items last)) n w e k g h j lo m = initial_sited c x y (listed p items last) n w e k lo m
+    variable_sited c x (Some (array t z)) (one_init (one a)) n w e k g h j lo m = value_sited c x (array t z) a n w g (string_orderly a g.0) h j e k lo m
+    variable_sited c x (Some (int t)) (one_init (one a)) n w e k g h j lo m = value_sited c x (int t) a n w g g h j e k lo m
+    variable_sited c x (Some (pointer t)) (one_init (one a)) n w e k g h j lo m = value_sited c x (pointer t) a n w g g h j e k lo m
+    variable_sited c x (Some (structure z)) (one_init (one a)) n w e k g h j lo m = absurd g
+    variable_sited c x (Some nothing) (one_init (one a)) n w e k g h j lo m = absurd g
+    variable_sited c x (Some y) (one_init (listed p items last)) n w e k g h j lo m = initial_sited c x y (listed p items last) g n w e k lo m
 
     declarator_sited : (c : Around) (d : DeclaratorShape) (w : Walked) → IsOrderlyDeclarator P.tables F d w → IsKindedDeclarator P.tables d → IsOwnDeclarator (R P F) d → More start w → More (walk_declarator P.tables c d w) end → IsSitedDeclarator (S P F) F P.tables c d w
     declarator_sited c (declarator stars x (arrays ls) init) w g h j lo m =
@@ -160,22 +178,22 @@ module _ (P : Source) (F : List Bound) where
 
       body_sited : (c : Around) (f : FormShape) (w : Walked) → IsOrderlyBody P.tables F c f w → IsKindedBody P.tables f → IsOwnBody (R P F) f → More start w → More (walk_body P.tables c f w) end → IsSitedBody (S P F) F P.tables c f w
       body_sited c (compound a) w g h j lo m = compound_sited c a w g h j lo m
-      body_sited c (simply e) w g h j lo m = maybe_sited P F layered free start end body c e w g h j lo m
+      body_sited c (simply e) w g h j lo m = maybe_sited P F layered filled free start end body c e w g h j lo m
       body_sited c (when e a) w g h j lo m =
           let v = walk_test c e w in
-          (test_sited P F layered free start end body c e w g.0 h.0 j.0 lo (on_further v (walk_part P.tables c a v) end (part_on P.tables c a v) m), part_sited c a v g.1 h.1 j.1 (on_further start w v lo (test_node_on c e w)) m)
+          (test_sited P F layered filled free start end body c e w g.0 h.0 j.0 lo (on_further v (walk_part P.tables c a v) end (part_on P.tables c a v) m), part_sited c a v g.1 h.1 j.1 (on_further start w v lo (test_node_on c e w)) m)
       body_sited c (either e a d) w g h j lo m =
           let u = walk_test c e w in
           let v = walk_part P.tables c a u in
           let back = on_further v (walk_part P.tables c d v) end (part_on P.tables c d v) m in
           let on = on_further start w u lo (test_node_on c e w) in
-          (test_sited P F layered free start end body c e w g.0 h.0 j.0 lo (on_further u v end (part_on P.tables c a u) back), part_sited c a u g.1 h.1 j.1.0 on back, part_sited c d v g.2 h.2 j.1.1 (on_further start u v on (part_on P.tables c a u)) m)
+          (test_sited P F layered filled free start end body c e w g.0 h.0 j.0 lo (on_further u v end (part_on P.tables c a u) back), part_sited c a u g.1 h.1 j.1.0 on back, part_sited c d v g.2 h.2 j.1.1 (on_further start u v on (part_on P.tables c a u)) m)
       body_sited c (while e a) w g h j lo m =
           let v = walk_loop_test c e w in
-          (loop_sited P F layered free start end body c (one_node e) w g.0 h.0 j.0 lo (on_further v (walk_part P.tables c a v) end (part_on P.tables c a v) m), part_sited c a v g.1 h.1 j.1 (on_further start w v lo (loop_test_on c e w)) m)
+          (loop_sited P F layered filled free start end body c (one_node e) w g.0 h.0 j.0 lo (on_further v (walk_part P.tables c a v) end (part_on P.tables c a v) m), part_sited c a v g.1 h.1 j.1 (on_further start w v lo (loop_test_on c e w)) m)
       body_sited c (do_while a e) w g h j lo m =
           let v = walk_part P.tables c a w in
-          (part_sited c a w g.0 h.0 j.0 lo (on_further v (walk_loop_test c e v) end (loop_test_on c e v) m), loop_sited P F layered free start end body c (one_node e) v g.1 h.1 j.1 (on_further start w v lo (part_on P.tables c a w)) m)
+          (part_sited c a w g.0 h.0 j.0 lo (on_further v (walk_loop_test c e v) end (loop_test_on c e v) m), loop_sited P F layered filled free start end body c (one_node e) v g.1 h.1 j.1 (on_further start w v lo (part_on P.tables c a w)) m)
       body_sited c (for e f b a) w g h j lo m =
           let s = walk_maybe c e w in
           let u = walk_maybe_test c f s in
@@ -185,20 +203,20 @@ module _ (P : Source) (F : List Bound) where
           let one = on_further s u end (maybe_test_on c f s) two in
           let a1 = on_further start w s lo (maybe_on c e w) in
           let a2 = on_further start s u a1 (maybe_test_on c f s) in (
-            maybe_sited P F layered free start end body c e w g.0 h.0 j.0 lo one,
-            loop_sited P F layered free start end body c f s g.1 h.1 j.1.0 a1 two,
-            step_sited P F layered free start end body c b u g.2 h.2 j.1.1.0 a2 three,
+            maybe_sited P F layered filled free start end body c e w g.0 h.0 j.0 lo one,
+            loop_sited P F layered filled free start end body c f s g.1 h.1 j.1.0 a1 two,
+            step_sited P F layered filled free start end body c b u g.2 h.2 j.1.1.0 a2 three,
             part_sited c a v g.3 h.3 j.1.1.1 (on_further start u v a2 (step_on c b u)) m,
           )
       body_sited c (switch e items) w g h j lo m =
           let v = walk_choice c e items w in
           let d = with_decision (pos_of e) (cases (case_values (choosing e) items)) w in (
-            sited P F layered free start end body (inside c w) Read e d g.0 h.0 j.0 (on_further start w d lo (decision_on (pos_of e) (cases (case_values (choosing e) items)) w)) (on_further v (walk_items P.tables c false items v) end (items_on P.tables c false items v) m),
+            sited P F layered filled free start end body (inside c w) Read e d g.0 h.0 j.0 (on_further start w d lo (decision_on (pos_of e) (cases (case_values (choosing e) items)) w)) (on_further v (walk_items P.tables c false items v) end (items_on P.tables c false items v) m),
             items_sited c false items v g.1 h.1 j.1 (on_further start w v lo (choice_on c e items w)) m,
           )
       body_sited c break w g h j lo m = tt
       body_sited c continue w g h j lo m = tt
-      body_sited c (return e) w g h j lo m = maybe_sited P F layered free start end body c e w g h j lo m
+      body_sited c (return e) w g h j lo m = maybe_sited P F layered filled free start end body c e w g h j lo m
 
       part_sited : (c : Around) (a : StmtShape) (w : Walked) → IsOrderlyPart P.tables F c a w → IsKindedStmt P.tables a → IsOwnStmt (R P F) a → More start w → More (walk_part P.tables c a w) end → IsSitedPart (S P F) F P.tables c a w
       part_sited c (stmt p ms q f) w g h j lo m = body_sited c f (with_block p w) g h j (on_further start w (with_block p w) lo (block_on p w)) m

@@ -1,4 +1,4 @@
--- The sites of a program's scalars in local variables may be told of, and the pairs of them that a run makes and covers are listed.
+-- The sites of a program's local variables, and of what is in them, may be told of, and the pairs of them that a run makes and covers are listed.
 use Rattle.std.proofs.Common.{[], refl, sym, append-nil}
 use Rattle.c_walk.specs.Units as units
 use Rattle.c_walk.specs.Units.{walk_externals}
@@ -16,7 +16,7 @@ parts_are_sites P has =
       outside = externals_unsited P [] es units.no_items (λ k lt. refl);
       inside = λ input limit f s e.
           let made = all_made P audible (start input limit) in
-          externals_sited P s.file has.layered (λ x h. at_gives x made f s e (made_none x P units.no_items (start input limit) h refl)) es units.no_items (λ k lt. refl) ([], sym (append-nil (walk_externals P.tables es units.no_items).items)) (has.orderly input limit f s e) has.kinded has.own;
+          externals_sited P s.file has.layered has.filled (λ x h. at_gives x made f s e (made_none x P units.no_items (start input limit) h refl)) es units.no_items (λ k lt. refl) ([], sym (append-nil (walk_externals P.tables es units.no_items).items)) has.scalars (has.orderly input limit f s e) has.kinded has.own;
     }
 
 pub part_pairs_are_listed : PartPairsAreListed

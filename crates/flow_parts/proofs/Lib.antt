@@ -8,3 +8,4 @@ pub mod Laws
 pub mod Positions
 pub mod Strong
 mod Worked
+mod WorkedCopies

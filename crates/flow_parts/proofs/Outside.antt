@@ -25,7 +25,7 @@ use Rattle.c_meaning.specs.Declarations.{new_instance, bind_file, name_marks, fi
 use Rattle.c_meaning.specs.Calls.{Source}
 use Rattle.c_meaning.specs.Runs.{literals_made, external_made, externals_made, all_made}
 use Rattle.flow_misses.proofs.Lists.{if_off}
-use Rattle.flow_locals.specs.Locals.{is_among, outer_names, outer_variables}
+use Rattle.flow_parts.specs.Items.{is_among, outer_names, outer_variables}
 
 pub among_parts : (x : ℕ) (xs ys : List ℕ) → is_among x (xs ++ ys) ≡ false → (is_among x xs ≡ false) × (is_among x ys ≡ false)
 among_parts x [] ys h = (refl, h)

@@ -1,6 +1,6 @@
 -- Each site of a program stands where the walk counts it; a parameter's is told of as one, and none at file scope is.
 use Rattle.std.proofs.Common.{ℕ, suc, ◌≤◌, ◌<◌, ◌++◌, ◌≡◌, List, [], ◌∷◌, refl, sym, subst, ap, ◌∙◌, append_assoc, arith, Option, Some, None, Bool, true, false}
-use Rattle.std.specs.Prelude.{nat_le, option_map, if◌then◌else◌}
+use Rattle.std.specs.Prelude.{Contains, nat_le, option_map, if◌then◌else◌}
 use Rattle.c_base.specs.declared.place.Pos.{Pos}
 use Rattle.c_syntax.specs.declared.tree.Named.{Named}
 use Rattle.c_syntax.specs.declared.tree.Star.{Star}
@@ -19,15 +19,19 @@ use Rattle.c_meaning.specs.Calls.{Source}
 use Rattle.flow_calls.specs.Orderly.{IsOrderlyFunction, AreOrderlyExternals}
 use Rattle.flow_calls.proofs.Cases.{le_not, le_is}
 use Rattle.flow_places.specs.Declared.{IsParameterOf, IsSitedParam, AreSitedParams, IsSitedLine, AreSitedLines, IsSitedSignature, IsUnsited, AreUnsited, IsSitedFunction, AreSitedExternals, AreUnsitedExternals}
+use Rattle.flow_initial.specs.Lengths.{AreFilled}
 use Rattle.flow_kinds.specs.Programs.{IsKindedCompound, AreKindedExternals}
 use Rattle.flow_elements.specs.Names.{AreLayered}
-use Rattle.flow_locals.specs.Locals.{def_at}
-use Rattle.flow_parts.specs.Own.{IsOwnCompound, AreOwnExternals}
-use Rattle.flow_parts.specs.Parts.{part_of, parameter_of, defined_in}
+use Rattle.flow_parts.specs.Items.{def_at}
+use Rattle.flow_leaves.specs.Leaves.{name_in}
+use Rattle.flow_owned.specs.Own as owned
+use Rattle.flow_owned.specs.Own.{IsOwnCompound, AreOwnExternals}
+use Rattle.flow_scalars.specs.Parameters.{IsScalarKind, IsScalarParam, AreScalarParams, IsScalarLine, AreScalarLines, HasScalarParameters, AreScalarParameters}
+use Rattle.flow_parts.specs.Parts.{leaf_at, part_of, parameter_of, defined_in}
 use Rattle.flow_parts.proofs.More.{More, on_same, on_further, more_defs, defs_both, block_on, defined_on, all_defined_on, param_on, given_on, signature_on, compound_on, external_on, externals_on}
 use Rattle.flow_parts.proofs.Found.{def_there}
-use Rattle.flow_parts.proofs.Sites.{AreOutside, Body, S, outside, all}
-use Rattle.flow_parts.proofs.Bodies.{compound_sited}
+use Rattle.flow_parts.proofs.Sites.{AreOutside, Body, S, outside, all, one_leaf}
+use Rattle.flow_parts.proofs.Bodies.{own_name, one_there, compound_sited}
 
 -- ---- tests of numbers
 
@@ -54,9 +58,12 @@ function_past P f d (braces p ds items) w =
 module _ (P : Source) (F : List Bound) where
   -- ---- parameters
 
-  whole_parameter : (x : ℕ) (o : Option VariableShape) → IsParameterOf (S P F) x (kind_in o) (parameter_of P.tables (option_map (whole_of x) o))
-  whole_parameter x None = tt
-  whole_parameter x (Some v) = (refl, refl, (0, omega arith, refl))
+  -- by its one leaf name
+  whole_parameter : (x : ℕ) (o : Option VariableShape) → row P.tables.variables x ≡ o → IsScalarKind (kind_in o) → IsParameterOf (S P F) x (kind_in o) (parameter_of P.tables (option_map (whole_of x) o))
+  whole_parameter x None e h = tt
+  whole_parameter x (Some v) e h =
+      let first : leaf_at P.tables x 0 ≡ v.name = ap (λ r. name_in P.tables (owned.name_in r) (kind_in r) 0) e ∙ own_name P.tables v.name v.kind h in
+      (refl, refl, subst (λ xs. Contains xs (leaf_at P.tables x 0)) (sym (one_leaf P.tables.structures v.name v.kind h)) (one_there v.name (leaf_at P.tables x 0) (sym first)))
 
   -- from before them to behind them
   record Params (start end : Walked) : Type 0 where
@@ -69,8 +76,8 @@ module _ (P : Source) (F : List Bound) where
       ap (def_at (next_def w)) (e ∙ ap (λ l. l ++ rest) m.is ∙ append_assoc (w.items ++ def p f d ∷ []) m.rest rest ∙ append_assoc w.items (def p f d ∷ []) (m.rest ++ rest)) ∙ def_there w.items p f d (m.rest ++ rest)
 
   module _ (start end : Walked) (ps : Params start end) where
-    param_sited : (f : ℕ) (d : DeclaratorShape) (w : Walked) → More start w → More (define_declarator P.tables f d w) end → IsSitedParam (S P F) F P.tables f d w
-    param_sited f (declarator stars x (arrays ls) i) w lo m =
+    param_sited : (f : ℕ) (d : DeclaratorShape) (w : Walked) → IsScalarParam P.tables d w → More start w → More (define_declarator P.tables f d w) end → IsSitedParam (S P F) F P.tables f d w
+    param_sited f (declarator stars x (arrays ls) i) w h lo m =
         let v = with_variable w in
         let k = next_def v in
         let p = name_pos first_place x in
@@ -80,29 +87,29 @@ module _ (P : Source) (F : List Bound) where
         let e = defs_both v.items (def p f o ∷ []) in
         let is = ps.defined_is k (omega (arith, a)) (omega (arith, b, e)) ∙ ap (parameter_of P.tables) (def_here start end ps.rest f p o v ps.front m) in
         subst (IsParameterOf (S P F) (suc w.variables) (variable_kind P.tables (suc w.variables))) (sym is)
-        (subst (λ (n : ℕ). IsParameterOf (S P F) (suc w.variables) (variable_kind P.tables (suc w.variables)) (parameter_of P.tables (whole P.tables n))) (omega arith) (whole_parameter (suc w.variables) (row P.tables.variables (suc w.variables))))
-    param_sited f (declarator stars x (function qs) i) w lo m = tt
+        (subst (λ (n : ℕ). IsParameterOf (S P F) (suc w.variables) (variable_kind P.tables (suc w.variables)) (parameter_of P.tables (whole P.tables n))) (omega arith) (whole_parameter (suc w.variables) (row P.tables.variables (suc w.variables)) refl h))
+    param_sited f (declarator stars x (function qs) i) w h lo m = tt
 
-    names_sited : (f : ℕ) (ds : DeclaratorShapes) (w : Walked) → More start w → More (define_declarators P.tables f ds w) end → AreSitedParams (S P F) F P.tables f ds w
-    names_sited f no_declarators w lo m = tt
-    names_sited f (more_declarators d rest) w lo m =
+    names_sited : (f : ℕ) (ds : DeclaratorShapes) (w : Walked) → AreScalarParams P.tables f ds w → More start w → More (define_declarators P.tables f ds w) end → AreSitedParams (S P F) F P.tables f ds w
+    names_sited f no_declarators w h lo m = tt
+    names_sited f (more_declarators d rest) w h lo m =
         let v = define_declarator P.tables f d w in
-        (param_sited f d w lo (on_further v (define_declarators P.tables f rest v) end (all_defined_on P.tables f rest v) m), names_sited f rest v (on_further start w v lo (defined_on P.tables f d w)) m)
+        (param_sited f d w h.0 lo (on_further v (define_declarators P.tables f rest v) end (all_defined_on P.tables f rest v) m), names_sited f rest v h.1 (on_further start w v lo (defined_on P.tables f d w)) m)
 
-    line_sited : (f : ℕ) (d : DeclShape) (w : Walked) → More start w → More (define_decl P.tables f d w) end → IsSitedLine (S P F) F P.tables f d w
-    line_sited f (decl p specs names) w lo m = names_sited f names w lo m
+    line_sited : (f : ℕ) (d : DeclShape) (w : Walked) → IsScalarLine P.tables f d w → More start w → More (define_decl P.tables f d w) end → IsSitedLine (S P F) F P.tables f d w
+    line_sited f (decl p specs names) w h lo m = names_sited f names w h lo m
 
-    lines_sited : (f : ℕ) (ds : DeclShapes) (w : Walked) → More start w → More (define_decls P.tables f ds w) end → AreSitedLines (S P F) F P.tables f ds w
-    lines_sited f no_decls w lo m = tt
-    lines_sited f (more_decls d rest) w lo m =
+    lines_sited : (f : ℕ) (ds : DeclShapes) (w : Walked) → AreScalarLines P.tables f ds w → More start w → More (define_decls P.tables f ds w) end → AreSitedLines (S P F) F P.tables f ds w
+    lines_sited f no_decls w h lo m = tt
+    lines_sited f (more_decls d rest) w h lo m =
         let v = define_decl P.tables f d w in
-        (line_sited f d w lo (on_further v (define_decls P.tables f rest v) end (given_on P.tables f rest v) m), lines_sited f rest v (on_further start w v lo (param_on P.tables f d w)) m)
+        (line_sited f d w h.0 lo (on_further v (define_decls P.tables f rest v) end (given_on P.tables f rest v) m), lines_sited f rest v h.1 (on_further start w v lo (param_on P.tables f d w)) m)
 
-    signature_sited : (f : ℕ) (d : DeclFormShape) (w : Walked) → More start w → More (define_parameters P.tables f d w) end → IsSitedSignature (S P F) F P.tables f d w
-    signature_sited f (function (params ds)) w lo m = lines_sited f ds w lo m
-    signature_sited f (function empty) w lo m = tt
-    signature_sited f (function void) w lo m = tt
-    signature_sited f (arrays ls) w lo m = tt
+    signature_sited : (f : ℕ) (d : DeclFormShape) (w : Walked) → HasScalarParameters P.tables f d w → More start w → More (define_parameters P.tables f d w) end → IsSitedSignature (S P F) F P.tables f d w
+    signature_sited f (function (params ds)) w h lo m = lines_sited f ds w h lo m
+    signature_sited f (function empty) w h lo m = tt
+    signature_sited f (function void) w h lo m = tt
+    signature_sited f (arrays ls) w h lo m = tt
 
   -- ---- programs
 
@@ -140,14 +147,14 @@ module _ (P : Source) (F : List Bound) where
         let l = defined_in P.tables (all P F) (outside P F) rest behind k in
         let b = more_defs w behind (external_on P.tables this w) in
         let c = more_defs behind_params behind (function_past P number d a w) in
-        h k (omega (arith, lt, b)) ∙ le_off k (def_count behind_params.items) (parameter_of P.tables (def_at k (all P F))) (if nat_le k (def_count behind.items) then part_of (outside P F) (def_at k (all P F)) else l) (omega (arith, lt, c))
-        ∙ le_off k (def_count behind.items) (part_of (outside P F) (def_at k (all P F))) l lt
+        h k (omega (arith, lt, b)) ∙ le_off k (def_count behind_params.items) (parameter_of P.tables (def_at k (all P F))) (if nat_le k (def_count behind.items) then part_of P.tables (outside P F) (def_at k (all P F)) else l) (omega (arith, lt, c))
+        ∙ le_off k (def_count behind.items) (part_of P.tables (outside P F) (def_at k (all P F))) l lt
 
     params_of : Ahead (this ∷ rest) w → Front behind → Params w behind_params
     params_of h f =
         let g = front_back behind_params behind (function_past P number d a w) f in
         record {
-          defined_is = λ k lt le. h k lt ∙ le_on k (def_count behind_params.items) (parameter_of P.tables (def_at k (all P F))) (if nat_le k (def_count behind.items) then part_of (outside P F) (def_at k (all P F)) else defined_in P.tables (all P F) (outside P F) rest behind k) le;
+          defined_is = λ k lt le. h k lt ∙ le_on k (def_count behind_params.items) (parameter_of P.tables (def_at k (all P F))) (if nat_le k (def_count behind.items) then part_of P.tables (outside P F) (def_at k (all P F)) else defined_in P.tables (all P F) (outside P F) rest behind k) le;
           rest = g.0;
           front = g.1;
         }
@@ -156,8 +163,8 @@ module _ (P : Source) (F : List Bound) where
     body_of h f =
         let b = more_defs w behind_params (signature_on P.tables number d w) in
         record {
-          defined_is = λ k lt le. h k (omega (arith, lt, b)) ∙ le_off k (def_count behind_params.items) (parameter_of P.tables (def_at k (all P F))) (if nat_le k (def_count behind.items) then part_of (outside P F) (def_at k (all P F)) else defined_in P.tables (all P F) (outside P F) rest behind k) lt
-              ∙ le_on k (def_count behind.items) (part_of (outside P F) (def_at k (all P F))) (defined_in P.tables (all P F) (outside P F) rest behind k) le;
+          defined_is = λ k lt le. h k (omega (arith, lt, b)) ∙ le_off k (def_count behind_params.items) (parameter_of P.tables (def_at k (all P F))) (if nat_le k (def_count behind.items) then part_of P.tables (outside P F) (def_at k (all P F)) else defined_in P.tables (all P F) (outside P F) rest behind k) lt
+              ∙ le_on k (def_count behind.items) (part_of P.tables (outside P F) (def_at k (all P F))) (defined_in P.tables (all P F) (outside P F) rest behind k) le;
           rest = f.0;
           front = f.1;
         }
@@ -193,20 +200,20 @@ module _ (P : Source) (F : List Bound) where
 
   -- ---- functions
 
-  module _ (layered : AreLayered P.tables) (free : AreOutside P F) where
-    function_sited : (f : ℕ) (d : DeclFormShape) (a : CompoundShape) (w : Walked) → (let j = define_parameters P.tables f d w in Params w j → Body P F j (walk_function P.tables f d a w) → IsOrderlyFunction P.tables F f d a w → IsKindedCompound P.tables a → IsOwnCompound P.tables.variables a → IsSitedFunction (S P F) F P.tables f d a w)
-    function_sited f d (braces p ds items) w ps body g h i =
+  module _ (layered : AreLayered P.tables) (filled : AreFilled P.tables) (free : AreOutside P F) where
+    function_sited : (f : ℕ) (d : DeclFormShape) (a : CompoundShape) (w : Walked) → (let j = define_parameters P.tables f d w in Params w j → Body P F j (walk_function P.tables f d a w) → HasScalarParameters P.tables f d w → IsOrderlyFunction P.tables F f d a w → IsKindedCompound P.tables a → IsOwnCompound P.tables.variables a → IsSitedFunction (S P F) F P.tables f d a w)
+    function_sited f d (braces p ds items) w ps body sc g h i =
         let j = define_parameters P.tables f d w in (
-          signature_sited w j ps f d w (on_same w) (on_same j),
-          compound_sited P F layered free j (walk_function P.tables f d (braces p ds items) w) body (in_function f) (braces p ds items) (with_block p j) g h i (block_on p j) (on_same (walk_function P.tables f d (braces p ds items) w)),
+          signature_sited w j ps f d w sc (on_same w) (on_same j),
+          compound_sited P F layered filled free j (walk_function P.tables f d (braces p ds items) w) body (in_function f) (braces p ds items) (with_block p j) g h i (block_on p j) (on_same (walk_function P.tables f d (braces p ds items) w)),
         )
 
-    pub externals_sited : (es : List ExternalShape) (w : Walked) → Ahead es w → Front (walk_externals P.tables es w) → AreOrderlyExternals P.tables F es w → AreKindedExternals P.tables es → AreOwnExternals P.tables.variables es → AreSitedExternals (S P F) F P.tables es w
-    externals_sited [] w h f g k o = tt
-    externals_sited (declared d ∷ rest) w h f g k o = externals_sited rest (walk_external P.tables (declared d) w) (ahead_declared d rest w h) f g k.1 o.1
-    externals_sited (defined specs (declarator stars x d i) ms a ∷ rest) w h f g k o =
+    pub externals_sited : (es : List ExternalShape) (w : Walked) → Ahead es w → Front (walk_externals P.tables es w) → AreScalarParameters P.tables es w → AreOrderlyExternals P.tables F es w → AreKindedExternals P.tables es → AreOwnExternals P.tables.variables es → AreSitedExternals (S P F) F P.tables es w
+    externals_sited [] w h f sc g k o = tt
+    externals_sited (declared d ∷ rest) w h f sc g k o = externals_sited rest (walk_external P.tables (declared d) w) (ahead_declared d rest w h) f sc g k.1 o.1
+    externals_sited (defined specs (declarator stars x d i) ms a ∷ rest) w h f sc g k o =
         let u = behind specs stars x d i ms a rest w in
         let at = front_back u (walk_externals P.tables rest u) (externals_on P.tables rest u) f in (
-          function_sited (function_of P.tables (text_of x)) d a w (params_of specs stars x d i ms a rest w h at) (body_of specs stars x d i ms a rest w h at) g.0 k.0 o.0,
-          externals_sited rest u (ahead_defined specs stars x d i ms a rest w h) f g.1 k.1 o.1,
+          function_sited (function_of P.tables (text_of x)) d a w (params_of specs stars x d i ms a rest w h at) (body_of specs stars x d i ms a rest w h at) sc.0 g.0 k.0 o.0,
+          externals_sited rest u (ahead_defined specs stars x d i ms a rest w h) f sc.1 g.1 k.1 o.1,
         )

@@ -12,9 +12,9 @@ use Rattle.c_meaning.specs.Layout.{variable_kind}
 use Rattle.flow_elements.specs.Names.{field_names, names_to, cell_names}
 use Rattle.flow_elements.proofs.Layers.{some_same}
 use Rattle.flow_leaves.specs.Leaves.{text_in, name_in}
-use Rattle.flow_locals.specs.Locals as locals
-use Rattle.flow_locals.specs.Locals.{is_plain}
-use Rattle.flow_parts.specs.Strong.{AreApart, HasIndex, PartNamesAreStrong}
+use Rattle.flow_owned.specs.Own as owned
+use Rattle.flow_fields.specs.Fields.{is_plain, AreApart}
+use Rattle.flow_parts.specs.Strong.{HasIndex, PartNamesAreStrong}
 
 -- ---- lists
 
@@ -166,15 +166,19 @@ module _ (rows : List StructShape) where
 
 -- ---- the law
 
-text_there : (o : Option Text) (n : Text) → (n ≡ [] → ⊥) → text_in o ≡ n → o ≡ Some n
-text_there None n some e = absurd (some (sym e))
-text_there (Some x) n some e = ap Some e
+-- a cell past the end is called `[]`
+past_index : (n : Text) → (HasIndex n → ⊥) → 91 ∷ 93 ∷ [] ≡ n → ⊥
+past_index n free e = free (subst HasIndex e (index_there [] []))
+
+text_there : (o : Option Text) (n : Text) → (HasIndex n → ⊥) → text_in o ≡ n → o ≡ Some n
+text_there None n free e = absurd (past_index n free e)
+text_there (Some x) n free e = ap Some e
 
 pub part_names_are_strong : PartNamesAreStrong
-part_names_are_strong P apart x n some free i j e g = in_kind (variable_kind P.tables x) e g
+part_names_are_strong P apart x n free i j e g = in_kind (variable_kind P.tables x) e g
   where
-    in_kind : (o : Option TypeOf) → name_in P.tables (locals.name_in (row P.tables.variables x)) o i ≡ n → name_in P.tables (locals.name_in (row P.tables.variables x)) o j ≡ n → i ≡ j
-    in_kind None e g = absurd (some (sym e))
+    in_kind : (o : Option TypeOf) → name_in P.tables (owned.name_in (row P.tables.variables x)) o i ≡ n → name_in P.tables (owned.name_in (row P.tables.variables x)) o j ≡ n → i ≡ j
+    in_kind None e g = absurd (past_index n free e)
     in_kind (Some k) e g =
-        let y = locals.name_in (row P.tables.variables x) in
-        single P.tables.structures apart (suc (length P.tables.structures)) y k n free i j (text_there (slice_get (cell_names P.tables y k) i) n some e) (text_there (slice_get (cell_names P.tables y k) j) n some g)
+        let y = owned.name_in (row P.tables.variables x) in
+        single P.tables.structures apart (suc (length P.tables.structures)) y k n free i j (text_there (slice_get (cell_names P.tables y k) i) n free e) (text_there (slice_get (cell_names P.tables y k) j) n free g)

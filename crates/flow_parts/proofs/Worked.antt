@@ -10,7 +10,7 @@ use Rattle.c_syntax.specs.declared.text.Text.{Text}
 use Rattle.c_syntax.specs.declared.token.Key.TheVariants as key
 use Rattle.c_syntax.specs.declared.tree.Named.{Named}
 use Rattle.c_syntax.specs.Shape.{TypeOf, int, pointer, array, structure, nothing, typed, number, name, NodeShape, node, ExprShape, leaf, suffix, two, assign, index, field, dot, one_node, no_lengths, more_lengths, SpecShapes, no_specs, more_specs, word, struct, members, decl, DeclShape, DeclShapes, no_decls, more_decls, declarator, no_declarators, more_declarators, arrays, function, void, no_init, stmt, FormShape, simply, return, braces, ItemShapes, no_items, more_items, defined, UnitShape}
-use Rattle.c_tables.specs.Tables.{FieldShape, TablesShape}
+use Rattle.c_tables.specs.Tables.{FieldShape, StructShape, TablesShape}
 use Rattle.c_tables.specs.Rows.{fields_in}
 use Rattle.c_events.specs.declared.events.Cell.{Cell}
 use Rattle.c_events.specs.declared.events.Event.{Event}
@@ -19,40 +19,40 @@ use Rattle.c_meaning.specs.Deeds.{told}
 use Rattle.c_meaning.specs.Calls.{Source, calls}
 use Rattle.c_meaning.specs.Runs.{run_heard}
 use Rattle.flow_calls.specs.Orderly.{IsOrderlyProgram}
-use Rattle.flow_misses.specs.Placing.{Local}
-use Rattle.flow_misses.specs.Pairs.{HasPair, IsStrong, IsListed}
+use Rattle.flow_misses.specs.Placing.{Local, IsStrong}
+use Rattle.flow_misses.specs.Pairs.{HasPair, IsListed}
 use Rattle.flow_elements.specs.Names.{depth_in, AreLayered}
-use Rattle.flow_locals.specs.Locals.{locals_of}
 use Rattle.flow_parts.specs.Parts.{parts_of, HasParts}
-use Rattle.flow_parts.specs.Strong.{AreApart, HasIndex}
+use Rattle.flow_fields.specs.Fields.{AreApart}
+use Rattle.flow_parts.specs.Strong.{HasIndex}
 use Rattle.flow_parts.proofs.Laws.{part_pairs_are_listed}
 use Rattle.flow_elements.proofs.Layers.{some_same}
-use Rattle.flow_parts.proofs.Strong.{none_some, head_of, not_empty, part_names_are_strong}
+use Rattle.flow_parts.proofs.Strong.{none_some, head_of, part_names_are_strong}
 
 -- ---- how the unit is spelled here
 
-abbrev at : Pos
+abbrev pub at : Pos
 at = record { line = 1; col = 1 }
 
-abbrev main_text : Text
+abbrev pub main_text : Text
 main_text = 109 ∷ 97 ∷ 105 ∷ 110 ∷ []
 
 abbrev a_text : Text
 a_text = 97 ∷ []
 
-abbrev f_text : Text
+abbrev pub f_text : Text
 f_text = 102 ∷ []
 
-abbrev g_text : Text
+abbrev pub g_text : Text
 g_text = 103 ∷ []
 
-abbrev s_text : Text
+abbrev pub s_text : Text
 s_text = 115 ∷ []
 
-abbrev e : ExprShape → NodeShape
+abbrev pub e : ExprShape → NodeShape
 e f = node at at (typed (int Int) None) f
 
-abbrev one : NodeShape
+abbrev pub one : NodeShape
 one = e (leaf (number (49 ∷ [])))
 
 -- s is variable 1, a is variable 2
@@ -62,20 +62,23 @@ member = e (suffix (node at at (typed (structure 1) (Some 1)) (leaf (name s_text
 abbrev element : NodeShape
 element = e (suffix (node at at (typed (array (int Int) 2) (Some 2)) (leaf (name a_text))) (index one))
 
-abbrev ints : SpecShapes
+abbrev pub ints : SpecShapes
 ints = more_specs at (word key.Int) no_specs
 
-abbrev named : Text → Option Named
+abbrev pub named : Text → Option Named
 named x = Some (record { pos = at; text = x; probe = None })
 
-abbrev a_field : Text → DeclShape
+abbrev pub a_field : Text → DeclShape
 a_field x = decl at ints (more_declarators (declarator [] (named x) (arrays no_lengths) no_init) no_declarators)
 
+abbrev pub pair_fields : DeclShapes
+pair_fields = more_decls (a_field f_text) (more_decls (a_field g_text) no_decls)
+
 abbrev variables : DeclShapes
-variables = more_decls (decl at (more_specs at (struct None (members (more_decls (a_field f_text) (more_decls (a_field g_text) no_decls)))) no_specs) (more_declarators (declarator [] (named s_text) (arrays no_lengths) no_init) no_declarators))
+variables = more_decls (decl at (more_specs at (struct None (members pair_fields)) no_specs) (more_declarators (declarator [] (named s_text) (arrays no_lengths) no_init) no_declarators))
     (more_decls (decl at ints (more_declarators (declarator [] (named a_text) (arrays (more_lengths (one_node (e (leaf (number (50 ∷ []))))) no_lengths)) no_init) no_declarators)) no_decls)
 
-abbrev first : FormShape → ItemShapes → ItemShapes
+abbrev pub first : FormShape → ItemShapes → ItemShapes
 first f rest = more_items [] (stmt at [] at f) rest
 
 -- int main(void){struct{int f;int g;}s;int a[2];s.g=1;a[1]=s.g;return a[1];}
@@ -88,9 +91,13 @@ parted = record {
   last = at;
 }
 
+-- struct {int f; int g;}
+abbrev pub structures : List StructShape
+structures = record { tag = None; fields = record { name = f_text; kind = int Int } ∷ record { name = g_text; kind = int Int } ∷ [] } ∷ []
+
 abbrev tables : TablesShape
 tables = record {
-  structures = record { tag = None; fields = record { name = f_text; kind = int Int } ∷ record { name = g_text; kind = int Int } ∷ [] } ∷ [];
+  structures = structures;
   functions = record { name = main_text; result = int Int; params = []; defined = Some [] } ∷ [];
   variables = record { name = s_text; kind = structure 1; function = 1 } ∷ record { name = a_text; kind = array (int Int) 2; function = 1 } ∷ [];
   literals = [];
@@ -116,10 +123,6 @@ element_defined = refl
 element_used : (parts_of program).used 2 ≡ Some in_a
 element_used = refl
 
--- neither is a variable itself
-no_local : (locals_of program).defined 2 ≡ None
-no_local = refl
-
 second_leaf : (parts_of program).leaf 1 1 ≡ 115 ∷ 46 ∷ 103 ∷ []
 second_leaf = refl
 
@@ -130,15 +133,15 @@ same_leaf = refl
 -- ---- what is asked of it
 
 orderly : IsOrderlyProgram program
-orderly input limit f s e = ((((tt, tt), ((tt, tt), tt)), (((tt, refl), refl, tt, (λ h. absurd (true≢false (sym h)))), (((tt, tt), refl, (tt, refl), (λ h. absurd (true≢false (sym h)))), ((tt, tt), tt)))), tt)
+orderly input limit f s e = ((((tt, tt), ((tt, tt), tt)), (((tt, refl), refl, tt, (λ h. absurd (true≢false (sym h))), (λ h. refl)), (((tt, tt), refl, (tt, refl), (λ h. absurd (true≢false (sym h))), (λ h. refl)), ((tt, tt), tt)))), tt)
 
 -- the one structure has fields of no depth
-of_rows : (b : Bool) (i : ℕ) → AllByRecursion (λ (f : FieldShape). depth_in (λ n. 1) f.kind < 1) (fields_in (if b then None else slice_get tables.structures i))
+pub of_rows : (b : Bool) (i : ℕ) → AllByRecursion (λ (f : FieldShape). depth_in (λ n. 1) f.kind < 1) (fields_in (if b then None else slice_get structures i))
 of_rows true i = tt
 of_rows false zero = (omega arith, (omega arith, tt))
 of_rows false (suc i) = tt
 
-flat : (k : TypeOf) → depth_in (λ n. 1) k ≤ 1
+pub flat : (k : TypeOf) → depth_in (λ n. 1) k ≤ 1
 flat (int j) = omega arith
 flat (pointer k) = omega arith
 flat (array k n) = flat k
@@ -160,6 +163,8 @@ has = record {
   );
   own = ((((tt, tt), ((tt, tt), tt)), ((refl, tt), (((refl, tt), refl), ((refl, tt), tt)))), tt);
   layered = layered;
+  filled = (((tt, (tt, tt)), tt), (tt, ((omega arith, tt), tt)));
+  scalars = (tt, tt);
 }
 
 -- ---- what a run makes
@@ -220,4 +225,4 @@ apart_rows false zero = (refl, (different, tt), (refl, tt, tt))
 apart_rows false (suc i) = tt
 
 field_strong : IsStrong (parts_of program) 1 (115 ∷ 46 ∷ 103 ∷ [])
-field_strong = part_names_are_strong program (λ n. apart_rows (nat_eq n 0) (n - 1)) 1 (115 ∷ 46 ∷ 103 ∷ []) (λ h. not_empty 115 (46 ∷ 103 ∷ []) h) no_index
+field_strong = part_names_are_strong program (λ n. apart_rows (nat_eq n 0) (n - 1)) 1 (115 ∷ 46 ∷ 103 ∷ []) no_index

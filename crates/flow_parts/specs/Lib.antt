@@ -1,3 +1,3 @@
-pub mod Own
+pub mod Items
 pub mod Parts
 pub mod Strong

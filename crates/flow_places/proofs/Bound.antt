@@ -115,6 +115,9 @@ pub opened_tail : (cs : List Call) → in_call tail_of (in_call opened cs) ≡ c
 opened_tail [] = refl
 opened_tail (c ∷ cs) = refl
 
+abbrev pub deed : ℕ → Act → Deed
+deed a b = record { activation = a; act = b }
+
 module _ (S : Sites) where
   -- each variable that stands for an instance in an active call stands for the one that this activation made last
   abbrev pub ScopeBound : List Deed → ℕ → List Bound → Type 0
@@ -176,9 +179,6 @@ module _ (S : Sites) where
   found_is ds x j (c ∷ cs) e h = scopes_found ds c.activation x j c.scopes e h.0
 
   -- ---- one deed more
-
-  abbrev pub deed : ℕ → Act → Deed
-  deed a b = record { activation = a; act = b }
 
   pub one_more : (a x n : ℕ) (ds : List Deed) (b : Act) → made_by S a x (deed n b) ≡ None → last_made S a x (ds ++ deed n b ∷ []) ≡ last_made S a x ds
   one_more a x n ds b e = last_append S a x ds (deed n b ∷ []) ∙ ap (λ o. or_else o (last_made S a x ds)) e

@@ -1,5 +1,5 @@
 -- What declarations keep: each variable that is declared stands for its new instance, in the innermost scope alone.
-use Rattle.std.proofs.Common.{ℕ, zero, suc, ◌+◌, ◌-◌, ◌≤◌, ◌<◌, List, [], ◌∷◌, ◌++◌, ◌≡◌, inr, refl, sym, subst, ap, ◌∙◌, append-nil, arith, length, Option, Some, None, Result, Ok, Err, Bool, true, false}
+use Rattle.std.proofs.Common.{ℕ, zero, suc, ◌+◌, ◌-◌, ◌≤◌, ◌<◌, List, [], ◌∷◌, ◌++◌, ◌≡◌, inr, refl, sym, subst, ap, ◌∙◌, arith, length, Option, Some, None, Result, Ok, Err, Bool, true, false}
 use Rattle.std.specs.Prelude.{nat_le, replicate, Contains, if◌then◌else◌}
 use Rattle.c_events.specs.declared.events.Event.{Event}
 use Rattle.c_events.specs.declared.events.Event.TheVariants as event
@@ -34,14 +34,14 @@ use Rattle.c_meaning.specs.Declarations.{new_instance, name_marks, filled, scala
 use Rattle.c_meaning.specs.Calls.{Source}
 use Rattle.c_meaning.proofs.Apart.{own_append}
 use Rattle.c_meaning.proofs.Declared.{declarator_count}
-use Rattle.flow_walks.specs.declared.action.Action.{Action}
 use Rattle.flow_walks.specs.declared.action.Action.TheVariants.{Define}
-use Rattle.flow_calls.specs.Readings.{readings}
-use Rattle.flow_calls.proofs.Own.{own_here, readings_append}
-use Rattle.flow_misses.specs.Placing.{Local, Sites, InPlace, HasOneName, IsDefined, DefinedAt, IsRepeated, At, AreInPlace}
+use Rattle.flow_calls.proofs.Own.{own_here}
+use Rattle.flow_misses.specs.Placing.{Local, Sites, InPlace, HasOneName, IsDefined, DefinedAt, IsRepeated, At}
 use Rattle.flow_places.specs.Sited.{IsSited}
 use Rattle.flow_places.specs.Declared.{AreNamed, DefinesBy, IsInitial, IsSitedVariable, IsSitedDeclarator, AreSitedDeclarators, IsSitedDecl, AreSitedDecls}
 use Rattle.flow_places.proofs.Bound.{Below, below_more, made_below, made_tail, found_is, found_made}
+use Rattle.flow_places.proofs.Finished.{AreRight, HasOne, IsOne, OneAt}
+use Rattle.flow_places.proofs.Ends.{EndsWith, ends_told, ends_again}
 use Rattle.flow_places.proofs.Good.{IsQuiet, IsOther, def_quiet, repeats_quiet, Good, good_act, good_bound, with_instance, makes_it, makes_other, Still, good_still}
 use Rattle.flow_places.proofs.Safe.{Any, GoodAt, Safe, Logging, at_from, safe_gives, safe_then, safe_needed, ForDef}
 use Rattle.flow_places.proofs.Parts.{written_within, SameCount, write_count, stored_safe}
@@ -64,7 +64,7 @@ module _ (S : Sites) (F : List Bound) where
 
   abbrev pub TopAt : {A : Type 0} → ℕ → State → Got A → Type 0
   TopAt m s (Gives a t) = Good S F t × (in_call tail_of t.calls ≡ in_call tail_of s.calls) × Below m t.calls
-  TopAt m s (Stops why t) = AreInPlace S t.deeds
+  TopAt m s (Stops why t) = AreRight S t.deeds
 
   -- before it the active call's variables are at most the first number, and behind it the second
   pub record Opens {A : Type 0} (n m : ℕ) (s : State) (r : Got A) : Type 0 where
@@ -89,7 +89,7 @@ module _ (S : Sites) (F : List Bound) where
   opens_safe n m s r le h = record { by = λ g w. safe_top n m s r le (h.by g w) w }
 
   pub opens_stops : {A : Type 0} (n m : ℕ) (why : Stop) (s t : State) → Still S F s t → Opens {A = A} n m s (Stops why t)
-  opens_stops n m why s t e = record { by = λ g w. (good_still S F s t e g).placed }
+  opens_stops n m why s t e = record { by = λ g w. (good_still S F s t e g).right }
 
   opens_still : {A : Type 0} (n m : ℕ) (s t : State) (r : Got A) → Still S F s t → Opens n m t r → Opens n m s r
   opens_still n m s t r e h = record { by = λ g w. top_from m s t r (ap (in_call tail_of) e.calls) (h.by (good_still S F s t e g) (subst (Below n) (sym e.calls) w)) }
@@ -123,8 +123,8 @@ module _ (S : Sites) (F : List Bound) where
   opens_logs n m log [] s go l f = f s
   opens_logs n m log (x ∷ xs) s go l f = one_logs n m log (probe_number_of x) s _ l (λ t. opens_logs n m log xs t go l f)
 
-  pub opens_did : {A : Type 0} (n m : ℕ) (b : Act) (s : State) (r : Got A) → IsQuiet S b → (Good S F s → At S s.deeds (activation s) b) → Opens n m (did b s) r → Opens n m s r
-  opens_did n m b s r k h f = record { by = λ g w. top_from m s (did b s) r refl (f.by (good_act S F s b k (h g) g) w) }
+  pub opens_did : {A : Type 0} (n m : ℕ) (b : Act) (s : State) (r : Got A) → IsQuiet S b → (Good S F s → At S s.deeds (activation s) b) → OneAt S s.deeds (activation s) b → Opens n m (did b s) r → Opens n m s r
+  opens_did n m b s r k h o f = record { by = λ g w. top_from m s (did b s) r refl (f.by (good_act S F s b k (h g) o g) w) }
 
   -- ---- a new instance
 
@@ -138,12 +138,9 @@ module _ (S : Sites) (F : List Bound) where
 
   -- ---- cells that are filled in order
 
-  -- what the activation did last is that it made the instance; that it defined there
+  -- what the activation did last is that it made the instance
   abbrev pub EndsMade : ℕ → ℕ → State → Type 0
   EndsMade x j s = (front : List Act) × (own (activation s) s.deeds ≡ front ++ makes x j ∷ [])
-
-  abbrev EndsDefined : ℕ → State → Type 0
-  EndsDefined d s = (before : List Action) × (readings (own (activation s) s.deeds) ≡ before ++ Define d ∷ [])
 
   abbrev pub IsFilled : ℕ → ℕ → Option Local → Type 0
   IsFilled x m None = Unit {0}
@@ -162,18 +159,19 @@ module _ (S : Sites) (F : List Bound) where
     named = subst (λ (i : ℕ). Contains v.names (S.leaf v.variable i)) (omega arith) (h.2 k lt);
   }
 
-  told_end : (a : ℕ) (b : Act) (ds : List Deed) → readings (own a (ds ++ record { activation = a; act = b } ∷ [])) ≡ readings (own a ds) ++ readings (b ∷ [])
-  told_end a b ds = ap readings (own_append a ds _ ∙ ap (λ x. own a ds ++ x) (own_here a b)) ∙ readings_append (own a ds) (b ∷ [])
-
-  repeated_at : (s : State) (x j m k d : ℕ) (o : Option Local) → IsFilled x m o → found_within x s.calls ≡ Some j → k < m → EndsDefined d s → Good S F s → IsRepeated S s.deeds (activation s) d (cell_at (cell_in j m k)) o
+  repeated_at : (s : State) (x j m k d : ℕ) (o : Option Local) → IsFilled x m o → found_within x s.calls ≡ Some j → k < m → EndsWith (Define d) s → Good S F s → IsRepeated S s.deeds (activation s) d (cell_at (cell_in j m k)) o
   repeated_at s x j m k d None h found lt e g = tt
   repeated_at s x j m k d (Some v) h found lt e g = record { no_parameter = h.1; place = cell_place s x j m k v h found lt g; before = e.0; last = e.1 }
 
-  first_at : (s : State) (x j m k : ℕ) (o : Option Local) → IsFilled x m o → found_within x s.calls ≡ Some j → k < m → EndsMade x j s → Good S F s → DefinedAt S s.deeds (activation s) (cell_at (cell_in j m k)) o
-  first_at s x j m k None h found lt e g = tt
-  first_at s x j m k (Some v) h found lt e g =
+  first_at : (s : State) (x j m k : ℕ) (o : Option Local) → IsFilled x m o → found_within x s.calls ≡ Some j → k < m → Good S F s → DefinedAt S s.deeds (activation s) (cell_at (cell_in j m k)) o
+  first_at s x j m k None h found lt g = tt
+  first_at s x j m k (Some v) h found lt g = subst (IsDefined S s.deeds (activation s) v (cell_at (cell_in j m k))) (sym h.1) (cell_place s x j m k v h found lt g)
+
+  first_one : (s : State) (x j m k : ℕ) (o : Option Local) → IsFilled x m o → EndsMade x j s → IsOne S s.deeds (activation s) (cell_at (cell_in j m k)) o
+  first_one s x j m k None h e = tt
+  first_one s x j m k (Some v) h e =
       let one : HasOneName S s.deeds (activation s) v (cell_at (cell_in j m k)) = inr (e.0, j, subst (λ (y : ℕ). own (activation s) s.deeds ≡ e.0 ++ makes y j ∷ []) (sym h.0) e.1) in
-      subst (IsDefined S s.deeds (activation s) v (cell_at (cell_in j m k))) (sym h.1) (cell_place s x j m k v h found lt g, one)
+      subst (HasOne S s.deeds (activation s) (cell_at (cell_in j m k)) v) (sym h.1) one
 
   stored_still : (s : State) (c : Cells) → c.count ≡ s.store.count → Still S F s (record s { store = c })
   stored_still s c e = record { deeds = refl; calls = refl; count = omega (arith, e); last = refl; file = refl }
@@ -184,23 +182,22 @@ module _ (S : Sites) (F : List Bound) where
   module _ (x j m : ℕ) (xs : List Text) (c : Around) (w : Walked) (h : IsFilled x m (S.defined (next_def w))) where
     -- what follows a cell that was written
     abbrev Follows : (way : Event → Act) → ℕ → List (Option Value) → Type 0
-    Follows way k vs = (s : State) → Good S F s → found_within x s.calls ≡ Some j → EndsDefined (next_def w) s → GoodAt S F s (filled way xs (heard c w) (cell_in j m k) vs s) Any
+    Follows way k vs = (s : State) → Good S F s → found_within x s.calls ≡ Some j → EndsWith (Define (next_def w)) s → GoodAt S F s (filled way xs (heard c w) (cell_in j m k) vs s) Any
 
     more_by : (k : ℕ) (v : Value) (vs : List (Option Value)) (s : State) (r : Result Cells Fault) → write_of s.store (cell_in j m k) v ≡ r → SameCount S F s.store.count r → Follows repeats (suc k) vs → Good S F s → found_within x s.calls ≡ Some j
-        → EndsDefined (next_def w) s
+        → EndsWith (Define (next_def w)) s
         → GoodAt S F s (then_do (then_do (settled r s) (λ p s. logs (log_def (cell_in j m k)) xs (noted_def repeats (heard c w) (cell_in j m k) (record s { store = p })) (λ s. Gives v s))) (λ v. filled repeats xs (heard c w) (cell_in j m (suc k)) vs)) Any
-    more_by k v vs s (Err why) e n ih g found ends = g.placed
+    more_by k v vs s (Err why) e n ih g found ends = g.right
     more_by k v vs s (Ok p) e n ih g found ends =
         let q = cell_in j m k in
         let t : State = record s { store = p } in
         let b = repeats (event.Def (next_def w) (cell_at q)) in
         let gt = good_still S F s t (stored_still s p n) g in
         let lt = written_within s.store p q v e in
-        let gu = good_act S F t b (repeats_quiet S (event.Def (next_def w) (cell_at q))) (repeated_at t x j m k (next_def w) (S.defined (next_def w)) h found lt ends gt) gt in
-        let told = told_end (activation s) b s.deeds ∙ append-nil (readings (own (activation s) s.deeds)) ∙ ends.1 in
+        let gu = good_act S F t b (repeats_quiet S (event.Def (next_def w) (cell_at q))) (repeated_at t x j m k (next_def w) (S.defined (next_def w)) h found lt ends gt) tt gt in
         logs_then (λ r. GoodAt S F s r Any) q v (λ v. filled repeats xs (heard c w) (cell_in j m (suc k)) vs) xs (did b t)
-        (λ l. let u : State = record (did b t) { log = l } in at_from S F s u _ Any refl (ih u (good_still S F (did b t) u (logged_still (did b t) l) gu) found (ends.0, told)))
-        (λ why l. gu.placed)
+        (λ l. let u : State = record (did b t) { log = l } in at_from S F s u _ Any refl (ih u (good_still S F (did b t) u (logged_still (did b t) l) gu) found (ends_again (Define (next_def w)) (event.Def (next_def w) (cell_at q)) t ends)))
+        (λ why l. gu.right)
 
     further : (k : ℕ) (vs : List (Option Value)) → Follows repeats k vs
     further k [] s g found ends = (g, refl, tt)
@@ -209,17 +206,17 @@ module _ (S : Sites) (F : List Bound) where
 
     first_by : (k : ℕ) (v : Value) (vs : List (Option Value)) (s : State) (r : Result Cells Fault) → write_of s.store (cell_in j m k) v ≡ r → SameCount S F s.store.count r → Good S F s → found_within x s.calls ≡ Some j → EndsMade x j s
         → GoodAt S F s (then_do (then_do (settled r s) (λ p s. logs (log_def (cell_in j m k)) xs (noted_def tells (heard c w) (cell_in j m k) (record s { store = p })) (λ s. Gives v s))) (λ v. filled repeats xs (heard c w) (cell_in j m (suc k)) vs)) Any
-    first_by k v vs s (Err why) e n g found ends = g.placed
+    first_by k v vs s (Err why) e n g found ends = g.right
     first_by k v vs s (Ok p) e n g found ends =
         let q = cell_in j m k in
         let t : State = record s { store = p } in
         let b = tells (event.Def (next_def w) (cell_at q)) in
         let gt = good_still S F s t (stored_still s p n) g in
         let lt = written_within s.store p q v e in
-        let gu = good_act S F t b (def_quiet S (next_def w) (cell_at q) (filled_other x m (S.defined (next_def w)) h)) (first_at t x j m k (S.defined (next_def w)) h found lt ends gt) gt in
+        let gu = good_act S F t b (def_quiet S (next_def w) (cell_at q) (filled_other x m (S.defined (next_def w)) h)) (first_at t x j m k (S.defined (next_def w)) h found lt gt) (first_one t x j m k (S.defined (next_def w)) h ends) gt in
         logs_then (λ r. GoodAt S F s r Any) q v (λ v. filled repeats xs (heard c w) (cell_in j m (suc k)) vs) xs (did b t)
-        (λ l. let u : State = record (did b t) { log = l } in at_from S F s u _ Any refl (further (suc k) vs u (good_still S F (did b t) u (logged_still (did b t) l) gu) found (readings (own (activation s) s.deeds), told_end (activation s) b s.deeds)))
-        (λ why l. gu.placed)
+        (λ l. let u : State = record (did b t) { log = l } in at_from S F s u _ Any refl (further (suc k) vs u (good_still S F (did b t) u (logged_still (did b t) l) gu) found (ends_told (event.Def (next_def w) (cell_at q)) t)))
+        (λ why l. gu.right)
 
     filled_at : (k : ℕ) (vs : List (Option Value)) (s : State) → Good S F s → found_within x s.calls ≡ Some j → EndsMade x j s → GoodAt S F s (filled tells xs (heard c w) (cell_in j m k) vs s) Any
     filled_at k [] s g found ends = (g, refl, tt)
@@ -282,7 +279,7 @@ module _ (S : Sites) (F : List Bound) where
           let x = suc w.variables in
           let j = suc s.store.count in
           let t = did (makes x j) (with_instance S F (grown xs s.store) x j s) in
-          let gt : Good S F t = good_bound S F n s (grown xs s.store) x j (makes x j) (omega (arith, le)) (omega arith) (omega arith) (omega arith) g.counted (makes_it S F x j) (makes_other S F x j) b g in
+          let gt : Good S F t = good_bound S F n s (grown xs s.store) x j (makes x j) (omega (arith, le)) (omega arith) (omega arith) (omega arith) g.counted tt (makes_it S F x j) (makes_other S F x j) b g in
           let found : found_within x t.calls ≡ Some j = found_made n x j s.calls b in
           let below : Below x t.calls = made_below n x j (omega (arith, le)) s.calls b in
           let inner = init_safe x x j y name init c (with_variable w) t h found (own (activation t) s.deeds, ended_by (activation t) s.deeds (makes x j)) in

@@ -25,15 +25,16 @@ use Rattle.c_meaning.specs.Places.{first_cell, next_cell, logs_one, logs, log_de
 use Rattle.c_meaning.specs.Declarations.{new_instance, bind_file, name_marks, filled, file_cells, file_variable, file_name, file_names}
 use Rattle.c_meaning.specs.Calls.{Source}
 use Rattle.c_meaning.specs.Runs.{literals_made, external_made, externals_made, all_made}
-use Rattle.flow_misses.specs.Placing.{Sites, IsNewest, DefinedAt, IsRepeated, At, AreInPlace}
+use Rattle.flow_misses.specs.Placing.{Sites, IsNewest, DefinedAt, IsRepeated, At}
 use Rattle.flow_places.specs.Declared.{IsUnsited, AreUnsited, AreUnsitedExternals}
 use Rattle.flow_places.proofs.Bound.{newest_more, placed_more}
+use Rattle.flow_places.proofs.Finished.{AreRight, IsOne, OneAt, finished_more}
 use Rattle.flow_places.proofs.Good.{IsQuiet, IsOther, def_quiet, repeats_quiet}
 
 module _ (S : Sites) where
   pub record Early (s : State) : Type 0 where
     pub calls : s.calls ≡ []
-    pub placed : AreInPlace S s.deeds
+    pub right : AreRight S s.deeds
     pub counted : IsNewest S s.deeds 1
 
   abbrev pub EarlyAt : {A : Type 0} → Got A → Type 0
@@ -53,12 +54,12 @@ module _ (S : Sites) where
   present_early None s e = e
 
   to_early : (s t : State) → t.calls ≡ s.calls → t.deeds ≡ s.deeds → Early s → Early t
-  to_early s t c d e = record { calls = subst (λ cs. cs ≡ []) (sym c) e.calls; placed = subst (AreInPlace S) (sym d) e.placed; counted = subst (λ ds. IsNewest S ds 1) (sym d) e.counted }
+  to_early s t c d e = record { calls = subst (λ cs. cs ≡ []) (sym c) e.calls; right = subst (AreRight S) (sym d) e.right; counted = subst (λ ds. IsNewest S ds 1) (sym d) e.counted }
 
-  did_early : (b : Act) (s : State) → IsQuiet S b → At S s.deeds (activation s) b → Early s → Early (did b s)
-  did_early b s k h e =
+  did_early : (b : Act) (s : State) → IsQuiet S b → At S s.deeds (activation s) b → OneAt S s.deeds (activation s) b → Early s → Early (did b s)
+  did_early b s k h o e =
       let z = k.number in
-      record { calls = e.calls; placed = placed_more S s.deeds (activation s) b h e.placed; counted = newest_more S 1 1 s.deeds (activation s) b (omega arith) (omega (arith, z)) e.counted }
+      record { calls = e.calls; right = (placed_more S s.deeds (activation s) b h e.right.0, finished_more S s.deeds (activation s) b o e.right.1); counted = newest_more S 1 1 s.deeds (activation s) b (omega arith) (omega (arith, z)) e.counted }
 
   none_other : (d : ℕ) → S.defined d ≡ None → IsOther S (S.defined d)
   none_other d h = subst (IsOther S) (sym h) tt
@@ -67,12 +68,13 @@ module _ (S : Sites) where
   pub record IsWay (way : Event → Act) (d : ℕ) : Type 0 where
     pub quiet : (q : Pointer) → IsQuiet S (way (event.Def d (cell_at q)))
     pub placed : (ds : _) (a : ℕ) (q : Pointer) → At S ds a (way (event.Def d (cell_at q)))
+    pub one : (ds : _) (a : ℕ) (q : Pointer) → OneAt S ds a (way (event.Def d (cell_at q)))
 
   tells_way : (d : ℕ) → S.defined d ≡ None → IsWay tells d
-  tells_way d h = record { quiet = λ q. def_quiet S d (cell_at q) (none_other d h); placed = λ ds a q. subst (DefinedAt S ds a (cell_at q)) (sym h) tt }
+  tells_way d h = record { quiet = λ q. def_quiet S d (cell_at q) (none_other d h); placed = λ ds a q. subst (DefinedAt S ds a (cell_at q)) (sym h) tt; one = λ ds a q. subst (IsOne S ds a (cell_at q)) (sym h) tt }
 
   repeats_way : (d : ℕ) → S.defined d ≡ None → IsWay repeats d
-  repeats_way d h = record { quiet = λ q. repeats_quiet S (event.Def d (cell_at q)); placed = λ ds a q. subst (IsRepeated S ds a d (cell_at q)) (sym h) tt }
+  repeats_way d h = record { quiet = λ q. repeats_quiet S (event.Def d (cell_at q)); placed = λ ds a q. subst (IsRepeated S ds a d (cell_at q)) (sym h) tt; one = λ ds a q. tt }
 
   one_early : {A : Type 0} (q : Pointer) (x : Option ℕ) (s : State) (go : State → Got A) → Early s → ((t : State) → Early t → EarlyAt (go t)) → EarlyAt (logs_one (log_def q) x s go)
   one_early q None s go e f = e
@@ -85,7 +87,7 @@ module _ (S : Sites) where
   stored_early : (way : Event → Act) (xs : List Text) (c : Around) (w : Walked) (q : Pointer) (v : Value) (s : State) → IsWay way (next_def w) → Early s → EarlyAt (stored way xs (heard c w) q v s)
   stored_early way xs c w q v s k e = then_early (settled (write_of s.store q v) s) _ (settled_early (write_of s.store q v) s e) (λ m t d.
       let u : State = record t { store = m } in
-      logs_early q xs (noted_def way (heard c w) q u) (λ s. Gives v s) (did_early (way (event.Def (next_def w) (cell_at q))) u (k.quiet q) (k.placed u.deeds (activation u) q) (to_early t u refl refl d)) (λ t g. g))
+      logs_early q xs (noted_def way (heard c w) q u) (λ s. Gives v s) (did_early (way (event.Def (next_def w) (cell_at q))) u (k.quiet q) (k.placed u.deeds (activation u) q) (k.one u.deeds (activation u) q) (to_early t u refl refl d)) (λ t g. g))
 
   filled_early : (way : Event → Act) (xs : List Text) (c : Around) (w : Walked) (q : Pointer) (vs : List (Option Value)) (s : State) → IsWay way (next_def w) → S.defined (next_def w) ≡ None → Early s → EarlyAt (filled way xs (heard c w) q vs s)
   filled_early way xs c w q [] s k h e = e

@@ -1,4 +1,4 @@
--- The states of a run: all that was done is in place, and what is bound is what was made last. Each step keeps it.
+-- The states of a run: all that was done is in place and finished, and what is bound is what was made last. Each step keeps it.
 use Rattle.std.proofs.Common.{ℕ, suc, ◌≤◌, ◌<◌, List, [], ◌∷◌, ◌++◌, ◌≡◌, refl, subst, sym, ap, ◌∙◌, arith, Option, Some, None, false}
 use Rattle.std.specs.Prelude.{nat_eq, ◌&&◌, if◌then◌else◌}
 use Rattle.std.proofs.lemmas.Bool.{ne_eqb}
@@ -8,9 +8,10 @@ use Rattle.c_events.specs.declared.events.Event.TheVariants as event
 use Rattle.c_store.specs.Cells.{Cells}
 use Rattle.c_meaning.specs.State.{Act, begins, makes, tells, repeats, Bound, State, activation, did, with_bound, in_call, opened, tail_of}
 use Rattle.c_meaning.specs.Calls.{activated}
-use Rattle.flow_misses.specs.Placing.{Local, Sites, given_in, made_in, given_number, number_of, IsNewest, At, AreInPlace}
+use Rattle.flow_misses.specs.Placing.{Local, Sites, given_in, made_in, given_number, number_of, IsNewest, At, AreInPlace, AreFinished}
 use Rattle.flow_misses.proofs.Lists.{if_on, if_off, same_eq}
 use Rattle.flow_places.proofs.Bound.{Falling, falling_in, falling_left, Below, not_found, active_in, AllBound, bound_quiet, bound_made, newest_more, newest_at, placed_more, bound_opened, bound_closed, bound_left}
+use Rattle.flow_places.proofs.Finished.{AreRight, OneAt, finished_more}
 
 module _ (S : Sites) where
   -- an act that makes no instance
@@ -59,6 +60,14 @@ module _ (S : Sites) where
 
   -- where these are the variables of file scope
   pub record Good (F : List Bound) (s : State) : Type 0 where
+    pub right : AreRight S s.deeds
+    pub counted : IsNewest S s.deeds (suc s.store.count)
+    pub bound : AllBound S s.deeds s.calls
+    pub falling : Falling (suc s.last) s.calls
+    pub file : s.file ≡ F
+
+  -- whatever is finished
+  pub record Sound (F : List Bound) (s : State) : Type 0 where
     pub placed : AreInPlace S s.deeds
     pub counted : IsNewest S s.deeds (suc s.store.count)
     pub bound : AllBound S s.deeds s.calls
@@ -66,9 +75,15 @@ module _ (S : Sites) where
     pub file : s.file ≡ F
 
   module _ (F : List Bound) where
+    pub to_sound : (s : State) → Good F s → Sound F s
+    to_sound s g = record { placed = g.right.0; counted = g.counted; bound = g.bound; falling = g.falling; file = g.file }
+
+    pub to_good : (s : State) → AreFinished S s.deeds → Sound F s → Good F s
+    to_good s f g = record { right = (g.placed, f); counted = g.counted; bound = g.bound; falling = g.falling; file = g.file }
+
     -- an act that makes nothing, in place
-    pub good_act : (s : State) (b : Act) → IsQuiet b → At S s.deeds (activation s) b → Good F s → Good F (did b s)
-    good_act s b k h g =
+    pub sound_act : (s : State) (b : Act) → IsQuiet b → At S s.deeds (activation s) b → Sound F s → Sound F (did b s)
+    sound_act s b k h g =
         let z = k.number in
         record {
           placed = placed_more S s.deeds (activation s) b h g.placed;
@@ -78,17 +93,20 @@ module _ (S : Sites) where
           file = g.file;
         }
 
+    pub good_act : (s : State) (b : Act) → IsQuiet b → At S s.deeds (activation s) b → OneAt S s.deeds (activation s) b → Good F s → Good F (did b s)
+    good_act s b k h o g = to_good (did b s) (finished_more S s.deeds (activation s) b o g.right.1) (sound_act s b k h (to_sound s g))
+
     -- the instance of that variable is bound
     abbrev pub with_instance : Cells → ℕ → ℕ → State → State
     with_instance c x j s = record s { store = c; calls = in_call (with_bound (record { variable = x; instance = j })) s.calls }
 
     -- and an act makes it
-    pub good_bound : (n : ℕ) (s : State) (c : Cells) (x j : ℕ) (b : Act) → n < x → s.store.count < j → j ≤ c.count → number_of S b ≤ c.count → At S s.deeds (activation s) b → made_in S x b ≡ Some j
+    pub good_bound : (n : ℕ) (s : State) (c : Cells) (x j : ℕ) (b : Act) → n < x → s.store.count < j → j ≤ c.count → number_of S b ≤ c.count → At S s.deeds (activation s) b → OneAt S s.deeds (activation s) b → made_in S x b ≡ Some j
         → ((y : ℕ) → (y ≡ x → ⊥) → made_in S y b ≡ None) → Below n s.calls → Good F s → Good F (did b (with_instance c x j s))
-    good_bound n s c x j b lt more le few h m f w g =
+    good_bound n s c x j b lt more le few h o m f w g =
         subst (λ (a : ℕ). Good F (record (with_instance c x j s) { deeds = s.deeds ++ record { activation = a; act = b } ∷ [] })) (sym (active_in (with_bound (record { variable = x; instance = j })) s.calls))
         (record {
-          placed = placed_more S s.deeds (activation s) b h g.placed;
+          right = (placed_more S s.deeds (activation s) b h g.right.0, finished_more S s.deeds (activation s) b o g.right.1);
           counted = newest_more S (suc s.store.count) (suc c.count) s.deeds (activation s) b (omega (arith, more, le)) (omega (arith, few)) g.counted;
           bound = bound_made S x j b s.deeds (suc s.last) s.calls (not_found n x lt s.calls w) m f g.falling g.bound;
           falling = falling_in (with_bound (record { variable = x; instance = j })) (suc s.last) s.calls g.falling;
@@ -114,7 +132,7 @@ module _ (S : Sites) where
     good_still s t e g =
         let le = e.count in
         record {
-          placed = subst (AreInPlace S) (sym e.deeds) g.placed;
+          right = subst (AreRight S) (sym e.deeds) g.right;
           counted = newest_at S (suc s.store.count) (suc t.store.count) t.deeds (omega (arith, le)) (subst (λ ds. IsNewest S ds (suc s.store.count)) (sym e.deeds) g.counted);
           bound = subst (λ ds. AllBound S ds t.calls) (sym e.deeds) (subst (AllBound S s.deeds) (sym e.calls) g.bound);
           falling = subst (λ n. Falling (suc n) t.calls) (sym e.last) (subst (Falling (suc s.last)) (sym e.calls) g.falling);
@@ -122,11 +140,11 @@ module _ (S : Sites) where
         }
 
     pub good_opened : (s : State) → Good F s → Good F (record s { calls = in_call opened s.calls })
-    good_opened s g = record { placed = g.placed; counted = g.counted; bound = bound_opened S s.deeds s.calls g.bound; falling = falling_in opened (suc s.last) s.calls g.falling; file = g.file }
+    good_opened s g = record { right = g.right; counted = g.counted; bound = bound_opened S s.deeds s.calls g.bound; falling = falling_in opened (suc s.last) s.calls g.falling; file = g.file }
 
     pub good_closed : (s : State) (c : Cells) → c.count ≡ s.store.count → Good F s → Good F (record s { store = c; calls = in_call tail_of s.calls })
     good_closed s c e g = record {
-      placed = g.placed;
+      right = g.right;
       counted = newest_at S (suc s.store.count) (suc c.count) s.deeds (omega (arith, e)) g.counted;
       bound = bound_closed S s.deeds s.calls g.bound;
       falling = falling_in tail_of (suc s.last) s.calls g.falling;
@@ -134,7 +152,7 @@ module _ (S : Sites) where
     }
 
     pub good_left : (s : State) → Good F s → Good F (record s { calls = tail_of s.calls })
-    good_left s g = record { placed = g.placed; counted = g.counted; bound = bound_left S s.deeds s.calls g.bound; falling = falling_left (suc s.last) s.calls g.falling; file = g.file }
+    good_left s g = record { right = g.right; counted = g.counted; bound = bound_left S s.deeds s.calls g.bound; falling = falling_left (suc s.last) s.calls g.falling; file = g.file }
 
     pub good_activated : (f : ℕ) (s : State) → Good F s → Good F (activated f s)
-    good_activated f s g = record { placed = g.placed; counted = g.counted; bound = ((tt, tt), g.bound); falling = (omega arith, omega arith, g.falling); file = g.file }
+    good_activated f s g = record { right = g.right; counted = g.counted; bound = ((tt, tt), g.bound); falling = (omega arith, omega arith, g.falling); file = g.file }

@@ -1,8 +1,11 @@
 pub mod Bound
+pub mod Finished
+pub mod Ends
 pub mod Good
 pub mod Safe
 pub mod Parts
 pub mod Copied
+pub mod Unmarked
 pub mod Nodes
 pub mod Declarations
 pub mod Flows

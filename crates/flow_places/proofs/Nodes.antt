@@ -39,10 +39,11 @@ use Rattle.c_meaning.specs.Calls.{Source}
 use Rattle.flow_names.specs.Keeping.{KeepsNames}
 use Rattle.flow_misses.specs.Placing.{Local, Sites}
 use Rattle.flow_misses.proofs.Lists.{some_not, some_is, or_some}
-use Rattle.flow_places.specs.Sited.{IsUsedAt, IsDefinedAt, variable_named, form_names, IsUse, IsDefinition, IsReadSite, IsUsedSite, IsDefinedSite, IsUntold, IsSited, IsFormSited, IsTestSited, IsArmSited, AreSited}
+use Rattle.flow_places.specs.Sited.{IsUsedAt, IsDefinedAt, variable_named, form_names, IsUse, IsDefinition, IsUsedWhole, IsDefinedWhole, IsReadSite, IsUsedSite, IsDefinedSite, IsCopied, IsSited, IsFormSited, IsTestSited, IsArmSited, AreSited}
 use Rattle.flow_places.proofs.Good.{Good, test_quiet}
 use Rattle.flow_places.proofs.Safe.{Any, GoodAt, Safe, safe_gives, safe_stops, safe_then, safe_turn, safe_if, safe_settled, safe_needed, safe_did, ForUse, ForDef}
-use Rattle.flow_places.proofs.Copied.{copied_safe}
+use Rattle.flow_places.proofs.Copied.{MayUseAll, MayDefAll, copied_safe}
+use Rattle.flow_places.proofs.Unmarked.{unmarked}
 use Rattle.flow_places.proofs.Parts.{MayUse, MayDef, block_safe, loaded_safe, stored_safe, fetched_safe, variable_safe, field_safe, built_in_safe}
 
 module _ (S : Sites) (F : List Bound) where
@@ -135,6 +136,15 @@ module _ (S : Sites) (F : List Bound) where
     def_place a o (inl h) r i n s f = def_itself a o h r i n s f
     def_place a o (inr h) r i n s f = def_found a o h r i n s f
 
+    -- all of a structure
+    use_whole : (a : NodeShape) (o : Option Local) → IsUsedWhole S F P.tables a o → (r : Taken) (i : First) (n : ℕ) (s : State) → Safe S F n s ((meaning P.tables kn a).place r i s) Any → Safe S F n s ((meaning P.tables kn a).place r i s) (MayUseAll S F o)
+    use_whole a None h r i n s f = safe_to n s _ Any (MayUseAll S F None) (λ q cs k lt. tt) f
+    use_whole a (Some v) h r i n s f = found_safe n s _ (MayUseAll S F (Some v)) (λ e u q is lt. h.by kn keeps r i s u q e is lt) f
+
+    def_whole : (a : NodeShape) (o : Option Local) → IsDefinedWhole S F P.tables a o → (r : Taken) (i : First) (n : ℕ) (s : State) → Safe S F n s ((meaning P.tables kn a).place r i s) Any → Safe S F n s ((meaning P.tables kn a).place r i s) (MayDefAll S F o)
+    def_whole a None h r i n s f = safe_to n s _ Any (MayDefAll S F None) (λ q cs k lt. tt) f
+    def_whole a (Some v) h r i n s f = found_safe n s _ (MayDefAll S F (Some v)) (λ e u q is lt. let k = h.1.by kn keeps r i s u q e is lt in (h.0, k.0, k.1.0, k.1.1)) f
+
     -- where it is used, and then defined
     abbrev pub ForBoth : Option Local → Option Local → Pointer → List Call → Type 0
     ForBoth o d q cs = MayUse S F o q cs × MayDef S F d q cs
@@ -173,7 +183,7 @@ module _ (S : Sites) (F : List Bound) where
 
     noted_safe : (n d : ℕ) (b x : Bool) (s : State) → Safe S F n s (Gives x (if b then s else did (tells (event.Test d (outcome x) (activation s))) s)) Any
     noted_safe n d true x s = safe_gives S F n s x Any tt
-    noted_safe n d false x s = safe_did S F n (tells (event.Test d (outcome x) (activation s))) s _ Any (test_quiet S d (outcome x) (activation s)) (λ g. tt) (safe_gives S F n (did (tells (event.Test d (outcome x) (activation s))) s) x Any tt)
+    noted_safe n d false x s = safe_did S F n (tells (event.Test d (outcome x) (activation s))) s _ Any (test_quiet S d (outcome x) (activation s)) (λ g. tt) tt (safe_gives S F n (did (tells (event.Test d (outcome x) (activation s))) s) x Any tt)
 
     -- at a test position
     abbrev pub Tests : Around → NodeShape → Walked → Type 0
@@ -295,19 +305,34 @@ module _ (S : Sites) (F : List Bound) where
         safe_then S F n r _ _ Any Any (written_safe n (type_at a) (marks def a) c w q y r (subst (MayDef S F d q) (sym (g ∙ h ∙ e)) k.1)) (λ y r g z. stepped_safe n f x y r)))))
 
     -- a structure's place that is copied, or a value that is written
-    assigned_safe : (z : Bool) (c : Around) (a b : NodeShape) (w : Walked) → Places c (if z then Copied else Read) b (walk_node c Written a w) → (z ≡ false → Values c b (walk_node c Written a w)) → (z ≡ true → IsUntold S F P.tables w (walk_node c Written a w)) → (n : ℕ) (q : Pointer) (s : State)
-        → MayDef S F (S.defined (next_def w)) q s.calls → Safe S F n s (assigned z (type_at a) (marks def a) (marks used b) (meaning P.tables kn b) (heard c w) (heard c (walk_node c Written a w)) q s) Any
-    assigned_safe true c a b w pb vb hu n q s k = let h = hu refl in
-        safe_then S F n s _ _ Any Any (pb n s) (λ r t e z. copied_safe S F n (marks def a) (marks used b) c w (walk_node c Written a w) q r t h.0 h.1)
-    assigned_safe false c a b w pb vb hu n q s k =
-        safe_then S F n s _ _ Any Any (wanted c b (walk_node c Written a w) (vb refl) n s) (λ v r h z. written_safe n (type_at a) (marks def a) c w q v r (subst (MayDef S F (S.defined (next_def w)) q) (sym h) k))
+    copy_assigned : (c : Around) (a b : NodeShape) (w : Walked) → marks def a ≡ [] → marks used b ≡ [] → Places c Copied b (walk_node c Written a w) → IsUsedWhole S F P.tables b (S.used (next_use (walk_node c Written a w))) → (n : ℕ) (q : Pointer) (s : State)
+        → MayDefAll S F (S.defined (next_def w)) q s.calls → Safe S F n s (assigned true (type_at a) (marks def a) (marks used b) (meaning P.tables kn b) (heard c w) (heard c (walk_node c Written a w)) q s) Any
+    copy_assigned c a b w ea eb pb hu n q s k =
+        let v = walk_node c Written a w in
+        subst (λ (ds : List Text). Safe S F n s (assigned true (type_at a) ds (marks used b) (meaning P.tables kn b) (heard c w) (heard c v) q s) Any) (sym ea) (
+        subst (λ (us : List Text). Safe S F n s (assigned true (type_at a) [] us (meaning P.tables kn b) (heard c w) (heard c v) q s) Any) (sym eb) (
+        safe_then S F n s _ _ (MayUseAll S F (S.used (next_use v))) Any (use_whole b (S.used (next_use v)) hu Copied (heard c v) n s (pb n s)) (λ r t e z.
+        copied_safe S F n c w v q r t (subst (MayUseAll S F (S.used (next_use v)) r) (sym e) z) (subst (MayDefAll S F (S.defined (next_def w)) q) (sym e) k))))
 
-    assign_safe : (c : Around) (p : Pos) (y : NoteShape) (a b : NodeShape) (w : Walked) → Places c Written a w → IsDefinedSite S F P.tables a w → Places c (right_taken None a) b (walk_node c Written a w) → (holds_structure a ≡ false → Values c b (walk_node c Written a w)) → (holds_structure a ≡ true → IsUntold S F P.tables w (walk_node c Written a w)) → (n : ℕ) (s : State) → Safe S F n s ((form_meaning P.tables kn p y (two (assign None) a b)).value (heard c w) s) Any
-    assign_safe c p y a b w pa hd pb vb hu n s =
+    value_assigned : (c : Around) (a b : NodeShape) (w : Walked) → Values c b (walk_node c Written a w) → (n : ℕ) (q : Pointer) (s : State)
+        → MayDef S F (S.defined (next_def w)) q s.calls → Safe S F n s (assigned false (type_at a) (marks def a) (marks used b) (meaning P.tables kn b) (heard c w) (heard c (walk_node c Written a w)) q s) Any
+    value_assigned c a b w vb n q s k =
+        safe_then S F n s _ _ Any Any (wanted c b (walk_node c Written a w) vb n s) (λ v r h z. written_safe n (type_at a) (marks def a) c w q v r (subst (MayDef S F (S.defined (next_def w)) q) (sym h) k))
+
+    assign_by : (z : Bool) (c : Around) (a b : NodeShape) (w : Walked) → Places c Written a w → marks def a ≡ [] → marks used b ≡ [] → (z ≡ false → IsDefinedSite S F P.tables a w) → Places c (if z then Copied else Read) b (walk_node c Written a w) → (z ≡ false → Values c b (walk_node c Written a w))
+        → (z ≡ true → IsCopied S F P.tables a b w (walk_node c Written a w)) → (n : ℕ) (s : State)
+        → Safe S F n s (then_do ((meaning P.tables kn a).place Written (heard c w) s) (assigned z (type_at a) (marks def a) (marks used b) (meaning P.tables kn b) (heard c w) (heard c (walk_node c Written a w)))) Any
+    assign_by true c a b w pa ea eb hd pb vb hu n s =
         let d = S.defined (next_def w) in
-        safe_turn S F n s _ Any (λ s e.
-        safe_then S F n s _ _ (MayDef S F d) Any (def_place a d hd Written (heard c w) n s (pa n s)) (λ q t e k.
-        assigned_safe (holds_structure a) c a b w pb vb hu n q t (subst (MayDef S F d q) (sym e) k)))
+        let h = hu refl in
+        safe_then S F n s _ _ (MayDefAll S F d) Any (def_whole a d h.0 Written (heard c w) n s (pa n s)) (λ q t e k. copy_assigned c a b w ea eb pb h.1 n q t (subst (MayDefAll S F d q) (sym e) k))
+    assign_by false c a b w pa ea eb hd pb vb hu n s =
+        let d = S.defined (next_def w) in
+        safe_then S F n s _ _ (MayDef S F d) Any (def_place a d (hd refl) Written (heard c w) n s (pa n s)) (λ q t e k. value_assigned c a b w (vb refl) n q t (subst (MayDef S F d q) (sym e) k))
+
+    assign_safe : (c : Around) (p : Pos) (y : NoteShape) (a b : NodeShape) (w : Walked) → Places c Written a w → marks def a ≡ [] → marks used b ≡ [] → (holds_structure a ≡ false → IsDefinedSite S F P.tables a w) → Places c (right_taken None a) b (walk_node c Written a w)
+        → (holds_structure a ≡ false → Values c b (walk_node c Written a w)) → (holds_structure a ≡ true → IsCopied S F P.tables a b w (walk_node c Written a w)) → (n : ℕ) (s : State) → Safe S F n s ((form_meaning P.tables kn p y (two (assign None) a b)).value (heard c w) s) Any
+    assign_safe c p y a b w pa ea eb hd pb vb hu n s = safe_turn S F n s _ Any (λ s e. assign_by (holds_structure a) c a b w pa ea eb hd pb vb hu n s)
 
     change_safe : (u : BinaryOp) (c : Around) (p : Pos) (y : NoteShape) (a b : NodeShape) (w : Walked) → Places c Changed a w → IsUsedSite S F P.tables a w → IsDefinedSite S F P.tables a w → Values c b (walk_node c Changed a w) → (n : ℕ) (s : State)
         → Safe S F n s ((form_meaning P.tables kn p y (two (assign (Some u)) a b)).value (heard c w) s) Any
@@ -378,7 +403,7 @@ module _ (S : Sites) (F : List Bound) where
         form_safe c p y (suffix a (behind u)) w g n s = step_safe false u c a w (place_safe c Changed a w g.0) g.1 g.2 n s
         form_safe c p y (two (assign None) a b) w g n s =
             let v = walk_node c Written a w in
-            assign_safe c p y a b w (place_safe c Written a w g.0) g.1 (place_safe c (right_taken None a) b v g.2) (λ e. value_safe c b v (subst (λ z. IsSited S F P.tables c (if z then Copied else Read) b v) e g.2)) g.3 n s
+            assign_safe c p y a b w (place_safe c Written a w g.0) (unmarked S F P.tables def c Written a w g.0) (unmarked S F P.tables used c (right_taken None a) b v g.2) g.1 (place_safe c (right_taken None a) b v g.2) (λ e. value_safe c b v (subst (λ z. IsSited S F P.tables c (if z then Copied else Read) b v) e g.2)) g.3 n s
         form_safe c p y (two (assign (Some u)) a b) w g n s = change_safe u c p y a b w (place_safe c Changed a w g.0) g.1 g.2 (value_safe c b _ g.3) n s
         form_safe c p y (two (plain u) a b) w g n s = plain_safe u c p y a b w (value_safe c a w g.0) (value_safe c b _ g.1) n s
         form_safe c p y (two and a b) w g n s = and_safe c p y a b w (test_safe c a w g.0) (test_safe c b _ g.1) n s

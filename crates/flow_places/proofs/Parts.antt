@@ -35,7 +35,7 @@ use Rattle.flow_places.proofs.Safe.{Any, Safe, safe_gives, safe_stops, safe_then
 abbrev pub IsWithin : {A : Type 0} → Pointer → A → List Call → Type 0
 IsWithin q a cs = q.index < q.length
 
-inside_of : (p : Pointer) (n : ℕ) → is_inside p n ≡ true → p.index < p.length
+pub inside_of : (p : Pointer) (n : ℕ) → is_inside p n ≡ true → p.index < p.length
 inside_of p n e = let h = (and_parts (nat_lt p.index p.length) _ e).0 in grind (arith, nat_tests)
 
 read_if : (b : Bool) (slot : Slot) (why : Fault) (p : Pointer) (v : Value) → read_in (if b then Ok slot else Err why) p ≡ Ok v → b ≡ true
@@ -78,11 +78,11 @@ module _ (S : Sites) (F : List Bound) where
   -- ---- what is told
 
   pub block_safe : {A : Type 0} (n : ℕ) (b : Bool) (c : Around) (w : Walked) (s : State) (r : Got A) (Q : A → List Call → Type 0) → Safe S F n (noted_block b (heard c w) s) r Q → Safe S F n s r Q
-  block_safe n true c w s r Q f = safe_did S F n (tells (event.Block (next_block w))) s r Q (block_quiet S (next_block w)) (λ g. tt) f
+  block_safe n true c w s r Q f = safe_did S F n (tells (event.Block (next_block w))) s r Q (block_quiet S (next_block w)) (λ g. tt) tt f
   block_safe n false c w s r Q f = f
 
   pub outcome_safe : {A : Type 0} (n : ℕ) (c : Around) (w : Walked) (o : ℕ) (s : State) (r : Got A) (Q : A → List Call → Type 0) → Safe S F n (noted_outcome (heard c w) o s) r Q → Safe S F n s r Q
-  outcome_safe n c w o s r Q f = safe_did S F n (tells (event.Test (next_decision w) o (activation s))) s r Q (test_quiet S (next_decision w) o (activation s)) (λ g. tt) f
+  outcome_safe n c w o s r Q f = safe_did S F n (tells (event.Test (next_decision w) o (activation s))) s r Q (test_quiet S (next_decision w) o (activation s)) (λ g. tt) tt f
 
   -- ---- reading and writing
 

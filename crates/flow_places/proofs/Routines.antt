@@ -37,6 +37,7 @@ use Rattle.flow_misses.specs.Placing.{Local, Sites, given_in, given_number, IsNe
 use Rattle.flow_misses.proofs.Lists.{same_eq, are_equal}
 use Rattle.flow_places.specs.Declared.{IsParameter, IsParameterOf, AreSitedLines, IsSitedLine, IsSitedSignature, IsSitedFunction, AreSitedExternals}
 use Rattle.flow_places.proofs.Bound.{Below, made_below, made_tail}
+use Rattle.flow_places.proofs.Finished.{HasOne, IsOne}
 use Rattle.flow_places.proofs.Good.{begins_quiet, block_quiet, Good, Still, good_act, good_bound, with_instance, good_still, good_closed, good_left, good_activated}
 use Rattle.flow_places.proofs.Safe.{Any, GoodAt, Safe, safe_gives, safe_stops}
 use Rattle.flow_places.proofs.Parts.{SameCount, write_count}
@@ -66,6 +67,10 @@ module _ (S : Sites) where
   param_at ds a x c None h new e = absurd h
   param_at ds a x c (Some v) h new e = subst (IsDefined S ds a v c) (sym h.1) (new, subst (λ (i : ℕ). Contains v.names (S.leaf v.variable i)) (sym e) h.2)
 
+  param_one : (ds : _) (a x : ℕ) (c : Cell) (o : Option Local) → IsParameter S x o → IsOne S ds a c o
+  param_one ds a x c None h = absurd h
+  param_one ds a x c (Some v) h = subst (HasOne S ds a c v) (sym h.1) tt
+
 module _ (S : Sites) (F : List Bound) (P : Source) where
   -- ---- parameters
 
@@ -75,7 +80,7 @@ module _ (S : Sites) (F : List Bound) (P : Source) where
       let q = whole (suc s.store.count) 1 in
       let u = bind (suc w.variables) (suc s.store.count) (record s { store = grown S F xs s.store }) in
       TopAt S F (suc w.variables) s (then_do (then_do (settled r u) (λ p s. logs (log_def q) (name_marks name) (noted_def tells i q (record s { store = p })) (λ s. Gives v s))) (λ v. Gives Next)))
-  stored_by n name c w v xs s le h g b (Err why) e = g.placed
+  stored_by n name c w v xs s le h g b (Err why) e = g.right
   stored_by n name c w v xs s le h g b (Ok p) e =
       let x = suc w.variables in
       let j = suc s.store.count in
@@ -86,10 +91,10 @@ module _ (S : Sites) (F : List Bound) (P : Source) where
       let t = did a (with_instance S F p x j s) in
       let few : j ≤ p.count = omega (arith, e) in
       let gt : Good S F t = good_bound S F n s p x j a (omega (arith, le)) (omega arith) few (param_number S x p.count (cell_at q) o h few)
-      (param_at S s.deeds (activation s) x (cell_at q) o h g.counted (omega arith)) (param_made S x (cell_at q) o h) (λ y ne. param_other S x y (cell_at q) o h ne) b g in
+      (param_at S s.deeds (activation s) x (cell_at q) o h g.counted (omega arith)) (param_one S s.deeds (activation s) x (cell_at q) o h) (param_made S x (cell_at q) o h) (λ y ne. param_other S x y (cell_at q) o h ne) b g in
       logs_then (TopAt S F x s) q v (λ v. Gives Next) (name_marks name) t
       (λ l. (good_still S F t (record t { log = l }) (record { deeds = refl; calls = refl; count = omega arith; last = refl; file = refl }) gt, made_tail (record { variable = x; instance = j }) s.calls, made_below n x j (omega (arith, le)) s.calls b))
-      (λ why l. gt.placed)
+      (λ why l. gt.right)
 
   variable_opens : (n : ℕ) (name : Option Named) (c : Around) (w : Walked) (v : Value) (y : TypeOf) (s : State) → n ≤ w.variables → IsParameter S (suc w.variables) (S.defined (next_def (with_variable w)))
       → Opens S F n (suc w.variables) s (then_do (make P.tables y s) (λ j s. scalar_written name (heard c (with_variable w)) j v (bind (suc w.variables) j s)))
@@ -147,7 +152,7 @@ module _ (S : Sites) (F : List Bound) (P : Source) where
   over_safe n s r h = record { by = λ g w. h.by g }
 
   over_stops : {A : Type 0} (why : _) (s : State) → Over {A = A} s (Stops why s)
-  over_stops why s = record { by = λ g. g.placed }
+  over_stops why s = record { by = λ g. g.right }
 
   -- the call that begins there
   abbrev begun : ℕ → State → State
@@ -162,8 +167,8 @@ module _ (S : Sites) (F : List Bound) (P : Source) where
   returned_at f m s y (Gives (Return (Some v)) t) h = left_at f m s t (Some (converted y v)) h
   returned_at f m s y (Gives (Return None) t) h = left_at f m s t None h
   returned_at f m s y (Gives Next t) h = left_at f m s t None h
-  returned_at f m s y (Gives Break t) h = h.0.placed
-  returned_at f m s y (Gives Continue t) h = h.0.placed
+  returned_at f m s y (Gives Break t) h = h.0.right
+  returned_at f m s y (Gives Continue t) h = h.0.right
   returned_at f m s y (Stops why t) h = h
 
   then_assoc : {A B C : Type 0} (r : Got A) (go : A → State → Got B) (on : B → State → Got C) → then_do (then_do r go) on ≡ then_do r (λ a s. then_do (go a s) on)
@@ -174,7 +179,7 @@ module _ (S : Sites) (F : List Bound) (P : Source) where
   deep_over f n m s y true r go h = record {
     by = λ g.
         subst (λ z. GoodAt S F s z Any) (then_assoc r go (returned y))
-        (returned_at f m s y (then_do r go) (h.by (good_act S F (activated f s) (begins f) (begins_quiet S f) tt (good_activated S F f s g)) (tt, tt)));
+        (returned_at f m s y (then_do r go) (h.by (good_act S F (activated f s) (begins f) (begins_quiet S f) tt tt (good_activated S F f s g)) (tt, tt)));
   }
   deep_over f n m s y false r go h = over_stops _ s
 
@@ -187,7 +192,7 @@ module _ (S : Sites) (F : List Bound) (P : Source) where
         let u = with_block p j in
         opens_then S F w.variables j.variables _ s _ _ (signature_opens w.variables d c w vs s (omega arith) h.0) (λ g s.
         subst (λ i. Opens S F j.variables (opened_to P.tables c (braces p ds items) u) s (body_flow P.tables kn ms (braces p ds items) i s)) (sym (past_is d c w))
-        (opens_did S F j.variables _ (tells (event.Block (next_block j))) s _ (block_quiet S (next_block j)) (λ g. tt)
+        (opens_did S F j.variables _ (tells (event.Block (next_block j))) s _ (block_quiet S (next_block j)) (λ g. tt) tt
         (opens_logs S F j.variables _ log_block (map (λ m. m.number) ms) (noted_block true (heard c j) s) _ (λ m s. record { deeds = refl; calls = refl; count = omega arith; last = refl; file = refl }) (λ t.
         opens_turn S F j.variables _ t _ (λ v. compound_opens S F P kn keeps calling turning j.variables (braces p ds items) c u (omega arith) h.1 v)))))
 

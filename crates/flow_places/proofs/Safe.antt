@@ -10,12 +10,13 @@ use Rattle.c_store.specs.declared.value.Fault.{Fault}
 use Rattle.c_store.specs.Cells.{cell_of}
 use Rattle.c_meaning.specs.declared.end.Stop.{Stop}
 use Rattle.c_meaning.specs.declared.end.Stop.TheVariants as stop
-use Rattle.c_meaning.specs.State.{Act, tells, Bound, Call, State, activation, did, found_within}
+use Rattle.c_meaning.specs.State.{Act, tells, Bound, Call, Deed, State, activation, did, found_within}
 use Rattle.c_meaning.specs.Results.{Got, Gives, Stops, then_do, turn_of, turn, settled, present, needed}
 use Rattle.c_meaning.specs.Firsts.{cell_at}
 use Rattle.c_meaning.specs.Places.{logs_one, logs}
-use Rattle.flow_misses.specs.Placing.{Local, Sites, InPlace, IsDefined, DefinedAt, UsedAt, At, AreInPlace}
+use Rattle.flow_misses.specs.Placing.{Local, Sites, InPlace, IsDefined, DefinedAt, UsedAt, At}
 use Rattle.flow_places.proofs.Bound.{Below, one_active, found_is}
+use Rattle.flow_places.proofs.Finished.{AreRight, HasOne, IsOne, OneAt}
 use Rattle.flow_places.proofs.Good.{IsQuiet, use_quiet, def_quiet, IsOther, Good, good_act, Still, good_still}
 
 -- nothing is said of the result
@@ -26,7 +27,7 @@ module _ (S : Sites) (F : List Bound) where
   -- the calls are the same, and of the result that is known, with these calls
   abbrev pub GoodAt : {A : Type 0} → State → Got A → (A → List Call → Type 0) → Type 0
   GoodAt s (Gives a t) Q = Good S F t × (t.calls ≡ s.calls) × Q a s.calls
-  GoodAt s (Stops why t) Q = AreInPlace S t.deeds
+  GoodAt s (Stops why t) Q = AreRight S t.deeds
 
   -- from a state in which the active call's variables are at most that number
   pub record Safe {A : Type 0} (n : ℕ) (s : State) (r : Got A) (Q : A → List Call → Type 0) : Type 0 where
@@ -40,7 +41,7 @@ module _ (S : Sites) (F : List Bound) where
   safe_gives n s a Q h = record { by = λ g w. (g, refl, h) }
 
   pub safe_stops : {A : Type 0} (n : ℕ) (why : Stop) (s : State) (Q : A → List Call → Type 0) → Safe n s (Stops why s) Q
-  safe_stops n why s Q = record { by = λ g w. g.placed }
+  safe_stops n why s Q = record { by = λ g w. g.right }
 
   then_at : {A B : Type 0} (n : ℕ) (s : State) (r : Got A) (go : A → State → Got B) (Q : A → List Call → Type 0) (R : B → List Call → Type 0) → GoodAt s r Q → Below n s.calls
       → ((a : A) (t : State) → t.calls ≡ s.calls → Q a s.calls → Safe n t (go a t) R) → GoodAt s (then_do r go) R
@@ -61,7 +62,7 @@ module _ (S : Sites) (F : List Bound) where
   safe_gives_at n s t a Q e h = record { by = λ g w. (good_still S F s t e g, e.calls, h) }
 
   pub safe_stops_at : {A : Type 0} (n : ℕ) (why : Stop) (s t : State) (Q : A → List Call → Type 0) → Still S F s t → Safe n s (Stops why t) Q
-  safe_stops_at n why s t Q e = record { by = λ g w. (good_still S F s t e g).placed }
+  safe_stops_at n why s t Q e = record { by = λ g w. (good_still S F s t e g).right }
 
   turn_of_safe : {A : Type 0} (n m : ℕ) (s : State) (go : State → Got A) (Q : A → List Call → Type 0) → ((t : State) → t.calls ≡ s.calls → Safe n t (go t) Q) → Safe n s (turn_of m s go) Q
   turn_of_safe n zero s go Q f = safe_stops n stop.Turns s Q
@@ -89,8 +90,8 @@ module _ (S : Sites) (F : List Bound) where
 
   -- ---- what is told, and logged
 
-  pub safe_did : {A : Type 0} (n : ℕ) (b : Act) (s : State) (r : Got A) (Q : A → List Call → Type 0) → IsQuiet S b → (Good S F s → At S s.deeds (activation s) b) → Safe n (did b s) r Q → Safe n s r Q
-  safe_did n b s r Q k h f = record { by = λ g w. at_from s (did b s) r Q refl (f.by (good_act S F s b k (h g) g) w) }
+  pub safe_did : {A : Type 0} (n : ℕ) (b : Act) (s : State) (r : Got A) (Q : A → List Call → Type 0) → IsQuiet S b → (Good S F s → At S s.deeds (activation s) b) → OneAt S s.deeds (activation s) b → Safe n (did b s) r Q → Safe n s r Q
+  safe_did n b s r Q k h o f = record { by = λ g w. at_from s (did b s) r Q refl (f.by (good_act S F s b k (h g) o g) w) }
 
   -- a way to log
   abbrev pub Logging : (ℕ → State → State) → Type 0
@@ -128,14 +129,18 @@ module _ (S : Sites) (F : List Bound) where
       let x = S.leaf v.variable (cell_of q) in
       let there : InPlace S s.deeds (activation s) v (cell_at q) =
       record { made = found_is S s.deeds v.variable q.instance s.calls k.1 g.bound; named = subst (λ l. Contains l x) (sym k.2) (head_in x) } in
-      subst (IsDefined S s.deeds (activation s) v (cell_at q)) (sym k.0) (there, inl k.2)
+      subst (IsDefined S s.deeds (activation s) v (cell_at q)) (sym k.0) there
+
+  pub one_def : (ds : List Deed) (a : ℕ) (o : Option Local) (q : Pointer) (cs : List Call) → ForDef o q cs → IsOne S ds a (cell_at q) o
+  one_def ds a None q cs k = tt
+  one_def ds a (Some v) q cs k = subst (HasOne S ds a (cell_at q) v) (sym k.0) (inl k.2)
 
   pub other_def : (o : Option Local) (q : Pointer) (cs : List Call) → ForDef o q cs → IsOther S o
   other_def None q cs k = tt
   other_def (Some v) q cs k = k.0
 
   pub safe_use : {A : Type 0} (n u : ℕ) (q : Pointer) (s : State) (r : Got A) (Q : A → List Call → Type 0) → ForUse (S.used u) q s.calls → Safe n (did (tells (event.Use u (cell_at q) (activation s))) s) r Q → Safe n s r Q
-  safe_use n u q s r Q k f = safe_did n (tells (event.Use u (cell_at q) (activation s))) s r Q (use_quiet S u (cell_at q) (activation s)) (λ g. used_there s (S.used u) q k g) f
+  safe_use n u q s r Q k f = safe_did n (tells (event.Use u (cell_at q) (activation s))) s r Q (use_quiet S u (cell_at q) (activation s)) (λ g. used_there s (S.used u) q k g) tt f
 
   pub safe_def : {A : Type 0} (n d : ℕ) (q : Pointer) (s : State) (r : Got A) (Q : A → List Call → Type 0) → ForDef (S.defined d) q s.calls → Safe n (did (tells (event.Def d (cell_at q))) s) r Q → Safe n s r Q
-  safe_def n d q s r Q k f = safe_did n (tells (event.Def d (cell_at q))) s r Q (def_quiet S d (cell_at q) (other_def (S.defined d) q s.calls k)) (λ g. defined_there s (S.defined d) q k g) f
+  safe_def n d q s r Q k f = safe_did n (tells (event.Def d (cell_at q))) s r Q (def_quiet S d (cell_at q) (other_def (S.defined d) q s.calls k)) (λ g. defined_there s (S.defined d) q k g) (one_def s.deeds (activation s) (S.defined d) q s.calls k) f

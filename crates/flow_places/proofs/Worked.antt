@@ -23,7 +23,7 @@ use Rattle.c_events.specs.declared.events.Event.TheVariants as event
 use Rattle.c_walk.specs.declared.around.Taken.TheVariants.{Read}
 use Rattle.c_meaning.specs.Places.{whole}
 use Rattle.flow_names.proofs.Names.{calls_keep_names}
-use Rattle.flow_misses.specs.Placing.{Local, Sites, AreInPlace}
+use Rattle.flow_misses.specs.Placing.{Local, Sites, AreInPlace, AreFinished}
 use Rattle.flow_misses.proofs.Lists.{some_not, some_is}
 use Rattle.flow_places.specs.Sited.{IsItself, StandsFor}
 use Rattle.flow_places.specs.Declared.{AreSitesOf, AreSitedExternals}
@@ -132,7 +132,7 @@ its_sites = record {
       (
         ((((refl, refl, refl), (λ h. absurd (true≢false (sym h)))), tt), tt),
         (
-          ((λ h. inl i_used), (((((refl, refl, refl), (λ h. inl i_used)), tt), tt), (((λ h. absurd (true≢false (sym h))), inl i_used, inl (record { is = refl; local = refl }, refl, refl)), tt))),
+          ((λ h. inl i_used), (((((refl, refl, refl), (λ h. inl i_used)), tt), tt), ((tt, inl i_used, inl (record { is = refl; local = refl }, refl, refl)), tt))),
           ((λ h. inl i_used), tt),
         ),
       ),
@@ -141,7 +141,7 @@ its_sites = record {
   );
 }
 
-in_place : (input : List ℕ) (limit : ℕ) → AreInPlace sites (run_heard program input limit).deeds
+in_place : (input : List ℕ) (limit : ℕ) → AreInPlace sites (run_heard program input limit).deeds × AreFinished sites (run_heard program input limit).deeds
 in_place input limit = runs_are_in_place program sites its_sites input limit
 
 -- the instance of i is 1, that of k in the one turn is 2

@@ -1,7 +1,8 @@
 -- Which sites may be told of in a program: of an expression, those that are a local variable itself or are found at cells of their names, by the
 -- numbers that the walk gives them. No probe stands in it.
-use Rattle.std.specs.Prelude.{◌≡◌, ◌<◌, ◌⊎◌, ℕ, Contains, List, [], ◌∷◌, true, false, Option, Some, None}
+use Rattle.std.specs.Prelude.{◌≡◌, ◌<◌, ◌+◌, ◌⊎◌, ℕ, Contains, List, [], ◌∷◌, true, false, Option, Some, None}
 use Rattle.c_base.specs.declared.place.Pos.{Pos}
+use Rattle.c_syntax.specs.declared.text.Text.{Text}
 use Rattle.c_syntax.specs.Shape.{NoteShape, typed, name, unary, before, size_of, plain, and, or, assign, comma, NodeShape, node, ExprShape, leaf, paren, call, prefix, size_of_type, cast, suffix, two, choose, probe, index, field, behind, NodeShapes, no_nodes, more_nodes, MaybeNode, no_node, one_node}
 use Rattle.c_walk.specs.declared.around.Around.{Around}
 use Rattle.c_walk.specs.declared.around.Taken.{Taken}
@@ -70,10 +71,33 @@ abbrev pub IsDefinedAt : Sites → List Bound → TablesShape → NodeShape → 
 IsDefinedAt S F t a None = ⊥
 IsDefinedAt S F t a (Some v) = (v.parameter ≡ false) × StandsFor F t a v.variable (λ c. v.names ≡ S.leaf v.variable c ∷ [])
 
+-- ---- structures that are copied
+
+-- wherever its place is found, it is in the instance that the variable stands for in the active call, at such an element, or past the end of an array
+pub record StandsWhole (F : List Bound) (t : TablesShape) (a : NodeShape) (x : ℕ) (P : Pointer → Type 0) : Type 0 where
+  pub by : (k : Knot) → KeepsNames k → (r : Taken) (i : First) (s u : State) (q : Pointer) → s.file ≡ F → (meaning t k a).place r i s ≡ Gives q u → q.index < q.length → (found_within x u.calls ≡ Some q.instance) × P q
+
+-- each of so many cells from that one has one of the names, and each of the names is one of these cells'
+abbrev pub AreNamedFrom : Sites → ℕ → List Text → ℕ → ℕ → Type 0
+AreNamedFrom S x names c n = (i : ℕ) → i < n → Contains names (S.leaf x (c + i))
+
+abbrev pub AreAllFrom : Sites → ℕ → List Text → ℕ → ℕ → Type 0
+AreAllFrom S x names c n = (m : Text) → Contains names m → (i : ℕ) × (i < n) × (S.leaf x (c + i) ≡ m)
+
+-- a use of all its cells, and a definition of these, by their names
+abbrev pub IsUsedWhole : Sites → List Bound → TablesShape → NodeShape → Option Local → Type 0
+IsUsedWhole S F t a None = Unit {0}
+IsUsedWhole S F t a (Some v) = StandsWhole F t a v.variable (λ q. AreNamedFrom S v.variable v.names (cell_of q) q.size)
+
+abbrev pub IsDefinedWhole : Sites → List Bound → TablesShape → NodeShape → Option Local → Type 0
+IsDefinedWhole S F t a None = Unit {0}
+IsDefinedWhole S F t a (Some v) = (v.parameter ≡ false) × StandsWhole F t a v.variable (λ q. AreNamedFrom S v.variable v.names (cell_of q) q.size × AreAllFrom S v.variable v.names (cell_of q) q.size)
+
 module _ (S : Sites) (F : List Bound) (t : TablesShape) where
-  -- where a place by itself is read
+  -- where the value of a place by itself is read
   abbrev pub IsReadSite : Taken → Pos → NoteShape → ExprShape → Walked → Type 0
-  IsReadSite r p n f w = reads r n f ≡ true → IsUse S F (form_names n f) (S.used (next_use w)) ⊎ IsUsedAt S F t (node p p n f) (S.used (next_use w))
+  IsReadSite Read p n f w = reads Read n f ≡ true → IsUse S F (form_names n f) (S.used (next_use w)) ⊎ IsUsedAt S F t (node p p n f) (S.used (next_use w))
+  IsReadSite r p n f w = Unit {0}
 
   abbrev pub IsUsedSite : NodeShape → Walked → Type 0
   IsUsedSite a w = IsUse S F (variable_named a) (S.used (next_use w)) ⊎ IsUsedAt S F t a (S.used (next_use w))
@@ -81,9 +105,9 @@ module _ (S : Sites) (F : List Bound) (t : TablesShape) where
   abbrev pub IsDefinedSite : NodeShape → Walked → Type 0
   IsDefinedSite a w = IsDefinition S F (variable_named a) (S.defined (next_def w)) ⊎ IsDefinedAt S F t a (S.defined (next_def w))
 
-  -- of neither the definition nor the use of a copy anything is told
-  abbrev pub IsUntold : Walked → Walked → Type 0
-  IsUntold w v = (S.used (next_use v) ≡ None) × (S.defined (next_def w) ≡ None)
+  -- the definition and the use of a copy
+  abbrev pub IsCopied : NodeShape → NodeShape → Walked → Walked → Type 0
+  IsCopied a b w v = IsDefinedWhole S F t a (S.defined (next_def w)) × IsUsedWhole S F t b (S.used (next_use v))
 
   -- each site of an expression, behind what was walked through
   abbrev mutual
@@ -111,7 +135,7 @@ module _ (S : Sites) (F : List Bound) (t : TablesShape) where
     IsFormSited c r p n (two or a b) w = IsTestSited c a w × IsTestSited c b (with_block (pos_of b) (walk_test c a w))
     IsFormSited c r p n (two (assign None) a b) w =
         let v = walk_node c Written a w in
-        IsSited c Written a w × IsDefinedSite a w × IsSited c (right_taken None a) b v × (holds_structure a ≡ true → IsUntold w v)
+        IsSited c Written a w × (holds_structure a ≡ false → IsDefinedSite a w) × IsSited c (right_taken None a) b v × (holds_structure a ≡ true → IsCopied a b w v)
     IsFormSited c r p n (two (assign (Some u)) a b) w = IsSited c Changed a w × IsUsedSite a w × IsDefinedSite a w × IsSited c Read b (walk_node c Changed a w)
     IsFormSited c r p n (choose a b d) w = IsTestSited c a w × IsArmSited c b (walk_test c a w) × IsArmSited c d (walk_arm c b (walk_test c a w))
 

@@ -7,8 +7,8 @@ use Rattle.c_walk.specs.Items.{Direct, Outcomes, labels, Item, block, decision, 
 use Rattle.c_walk.specs.Counted.{def_count, use_count}
 use Rattle.c_walk.specs.Sound.{decision_count}
 use Rattle.c_sites.specs.Names.{LeafName}
-use Rattle.c_sites.specs.Kinds.{decisions, DefSite, def_site, defs, use_site, uses}
-use Rattle.flow_locals.specs.Locals.{def_at, use_at}
+use Rattle.c_sites.specs.Kinds.{decisions, DefSite, def_site, defs, UseSite, use_site, uses}
+use Rattle.flow_parts.specs.Items.{def_at, use_at}
 
 none_some : (x : Direct) → None ≡ Some x → ⊥
 none_some x e = cc
@@ -18,6 +18,12 @@ none_site s e = cc
 
 some_site : (x y : DefSite) → Some x ≡ Some y → x ≡ y
 some_site x y e = cc
+
+none_used : (s : UseSite) → None ≡ Some s → ⊥
+none_used s e = cc
+
+some_used : (x y : UseSite) → Some x ≡ Some y → x ≡ y
+some_used x y e = cc
 
 -- ---- the n-th of a kind, and the items before it
 
@@ -44,6 +50,13 @@ def_there (block q ∷ xs) p f d rest = def_there xs p f d rest
 def_there (decision q o ∷ xs) p f d rest = def_there xs p f d rest
 def_there (used q g c k ∷ xs) p f d rest = def_there xs p f d rest
 def_there (def q g c ∷ xs) p f d rest = def_there xs p f d rest
+
+pub use_there : (xs : List Item) (p : Pos) (f : ℕ) (d : Option Direct) (k : Option ℕ) (rest : List Item) → use_at (suc (use_count xs)) (xs ++ used p f d k ∷ rest) ≡ d
+use_there [] p f d k rest = refl
+use_there (block q ∷ xs) p f d k rest = use_there xs p f d k rest
+use_there (decision q o ∷ xs) p f d k rest = use_there xs p f d k rest
+use_there (def q g c ∷ xs) p f d k rest = use_there xs p f d k rest
+use_there (used q g c j ∷ xs) p f d k rest = use_there xs p f d k rest
 
 pub def_split : (n : ℕ) (is : List Item) (x : Direct) → def_at n is ≡ Some x → DefAt is n (Some x)
 def_split n [] x e = absurd (none_some x e)
@@ -105,3 +118,22 @@ module _ (ns : List LeafName) (rows : List StructShape) where
   site_back (used p f d j ∷ is) k s e = let a = site_back is k s e in record { direct = a.direct; pre = used p f d j ∷ a.pre; place = a.place; function = a.function; rest = a.rest; cut = ap (λ l. used p f d j ∷ l) a.cut; number = a.number; site = a.site }
   site_back (def p f d ∷ is) zero s e = record { direct = d; pre = []; place = p; function = f; rest = is; cut = refl; number = refl; site = sym (some_site (def_site ns rows p f d) s e) }
   site_back (def p f d ∷ is) (suc k) s e = let a = site_back is k s e in record { direct = a.direct; pre = def p f d ∷ a.pre; place = a.place; function = a.function; rest = a.rest; cut = ap (λ l. def p f d ∷ l) a.cut; number = ap suc a.number; site = a.site }
+
+  pub record UsedSite (is : List Item) (k : ℕ) (s : UseSite) : Type 0 where
+    pub direct : Option Direct
+    pub pre : List Item
+    pub place : Pos
+    pub function : ℕ
+    pub owner : Option ℕ
+    pub rest : List Item
+    pub cut : is ≡ pre ++ used place function direct owner ∷ rest
+    pub number : k ≡ use_count pre
+    pub site : s ≡ use_site ns rows place function direct owner
+
+  pub use_back : (is : List Item) (k : ℕ) (s : UseSite) → slice_get (uses ns rows is) k ≡ Some s → UsedSite is k s
+  use_back [] k s e = absurd (none_used s e)
+  use_back (block p ∷ is) k s e = let a = use_back is k s e in record { direct = a.direct; pre = block p ∷ a.pre; place = a.place; function = a.function; owner = a.owner; rest = a.rest; cut = ap (λ l. block p ∷ l) a.cut; number = a.number; site = a.site }
+  use_back (decision p o ∷ is) k s e = let a = use_back is k s e in record { direct = a.direct; pre = decision p o ∷ a.pre; place = a.place; function = a.function; owner = a.owner; rest = a.rest; cut = ap (λ l. decision p o ∷ l) a.cut; number = a.number; site = a.site }
+  use_back (def p f d ∷ is) k s e = let a = use_back is k s e in record { direct = a.direct; pre = def p f d ∷ a.pre; place = a.place; function = a.function; owner = a.owner; rest = a.rest; cut = ap (λ l. def p f d ∷ l) a.cut; number = a.number; site = a.site }
+  use_back (used p f d j ∷ is) zero s e = record { direct = d; pre = []; place = p; function = f; owner = j; rest = is; cut = refl; number = refl; site = sym (some_used (use_site ns rows p f d j) s e) }
+  use_back (used p f d j ∷ is) (suc k) s e = let a = use_back is k s e in record { direct = a.direct; pre = used p f d j ∷ a.pre; place = a.place; function = a.function; owner = a.owner; rest = a.rest; cut = ap (λ l. used p f d j ∷ l) a.cut; number = ap suc a.number; site = a.site }

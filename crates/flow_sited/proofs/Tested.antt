@@ -11,17 +11,16 @@ use Rattle.c_meaning.specs.Calls.{Source}
 use Rattle.c_meaning.specs.Runs.{run_heard}
 use Rattle.c_meaning.proofs.Apart.{own_append}
 use Rattle.flow_walks.specs.declared.action.Action.TheVariants.{Test, Kill}
-use Rattle.flow_calls.specs.Orderly.{IsOrderlyProgram}
 use Rattle.flow_calls.specs.Readings.{action_of, readings}
 use Rattle.flow_calls.specs.Walking.{IsWalking}
 use Rattle.flow_calls.proofs.Laws.{each_call_walks}
 use Rattle.flow_misses.specs.Placing.{At}
 use Rattle.flow_misses.proofs.Told.{deed, cut}
 use Rattle.flow_places.proofs.Laws.{runs_are_in_place}
-use Rattle.flow_locals.specs.Locals.{locals_of}
-use Rattle.flow_locals.proofs.Laws.{locals_are_sites}
+use Rattle.flow_parts.specs.Parts.{HasParts, parts_of}
+use Rattle.flow_parts.proofs.Laws.{parts_are_sites}
 use Rattle.flow_sited.specs.Sites.{all_sites, HasOutcome, CoveredOutcomesAreListed, CoveredPUsesHaveOutcomes}
-use Rattle.flow_sited.proofs.Leaves.{none_there}
+use Rattle.flow_sited.proofs.Lists.{none_there}
 use Rattle.flow_sited.proofs.Walks.{walks_stand}
 use Rattle.flow_sited.proofs.Before.{IsByCall, tests_by_calls}
 
@@ -74,7 +73,7 @@ own_has front rest a act = subst (λ l. Contains l act) (sym (own_append a front
 
 -- ---- a test of a run
 
-module _ (P : Source) (orderly : IsOrderlyProgram P) (input : List ℕ) (limit : ℕ) where
+module _ (P : Source) (has : HasParts P) (input : List ℕ) (limit : ℕ) where
   abbrev ds : List Deed
   ds = (run_heard P input limit).deeds
 
@@ -86,7 +85,7 @@ module _ (P : Source) (orderly : IsOrderlyProgram P) (input : List ℕ) (limit :
   by_call : (k o a by : ℕ) (front rest : List Deed) → ds ≡ front ++ deed by (tells (event.Test k o a)) ∷ rest → IsByCall (deed by (tells (event.Test k o a))) → HasOutcome (all_sites P).decisions k o
   by_call k o a by front rest is (inl h) = absurd h
   by_call k o a by front rest is (inr le) =
-      walking k o a by (subst (λ (l : List Deed). Contains (own by l) (tells (event.Test k o a))) (sym is) (own_has front rest by (tells (event.Test k o a)))) (each_call_walks P orderly input limit by le)
+      walking k o a by (subst (λ (l : List Deed). Contains (own by l) (tells (event.Test k o a))) (sym is) (own_has front rest by (tells (event.Test k o a)))) (each_call_walks P has.orderly input limit by le)
 
   there : (front rest : List Deed) (d : Deed) → ds ≡ front ++ d ∷ rest → Contains ds d
   there front rest d is = subst (λ l. Contains l d) (sym is) (Contains-append_right front (d ∷ rest) d (0, omega arith, refl))
@@ -99,14 +98,14 @@ module _ (P : Source) (orderly : IsOrderlyProgram P) (input : List ℕ) (limit :
       elim c.way [
         | inl e ↦ (let is : ds ≡ c.front ++ deed c.by (tells t) ∷ c.rest = c.is ∙ ap (λ b. c.front ++ deed c.by b ∷ c.rest) e in
             by_call k o a c.by c.front c.rest is (All-contains IsByCall ds (deed c.by (tells t)) (tests_by_calls P input limit) (there c.front c.rest (deed c.by (tells t)) is)))
-        | inr e ↦ absurd (subst (λ b. At (locals_of P) c.front c.by b) e (runs_are_in_place P (locals_of P) (locals_are_sites P orderly) input limit c.front c.rest (deed c.by c.act) c.is))
+        | inr e ↦ absurd (subst (λ b. At (parts_of P) c.front c.by b) e ((runs_are_in_place P (parts_of P) (parts_are_sites P has) input limit).0 c.front c.rest (deed c.by c.act) c.is))
       ]
 
 pub covered_outcomes_are_listed : CoveredOutcomesAreListed
-covered_outcomes_are_listed P orderly owner input limit k o c = tested P orderly input limit k o c.1 c.0 c.2
+covered_outcomes_are_listed P has owner input limit k o c = tested P has input limit k o c.1 c.0 c.2
 
 pub covered_p_uses_have_outcomes : CoveredPUsesHaveOutcomes
-covered_p_uses_have_outcomes P orderly owner input limit d u k o own c = subst (λ (n : ℕ). HasOutcome (all_sites P).decisions n o) (same_number c.0 k (sym c.1 ∙ own)) (tested P orderly input limit c.0 o c.2.1 c.2.4 c.2.7)
+covered_p_uses_have_outcomes P has owner input limit d u k o own c = subst (λ (n : ℕ). HasOutcome (all_sites P).decisions n o) (same_number c.0 k (sym c.1 ∙ own)) (tested P has input limit c.0 o c.2.1 c.2.4 c.2.7)
   where
     same_number : (m n : ℕ) → Some m ≡ Some n → m ≡ n
     same_number m n e = cc

@@ -11,7 +11,7 @@ use Rattle.c_walk.specs.Walked.{Walked}
 use Rattle.c_walk.specs.Stating.{whole_of, whole, with_variable, with_whole_def}
 use Rattle.c_walk.specs.Units.{define_declarator, define_declarators, define_decl, define_decls, define_parameters}
 use Rattle.flow_walks.proofs.Appended.{defs_both}
-use Rattle.flow_locals.specs.Locals.{def_at, outer_names, is_among}
+use Rattle.flow_parts.specs.Items.{def_at, outer_names, is_among}
 use Rattle.flow_sited.proofs.Numbers.{def_there}
 use Rattle.flow_sited.proofs.Grown.{Grows, defines_grow, define_decls_grow}
 

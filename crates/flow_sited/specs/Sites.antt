@@ -1,25 +1,24 @@
--- The sites of a program by their numbers: what a walk meets stands in its function, and a scalar local variable's sites have its own name.
-use Rattle.std.specs.Prelude.{◌≡◌, ◌≤◌, ◌-◌, ℕ, List, [], ◌∷◌, slice_get, Contains, true, Option, Some, None}
-use Rattle.std.specs.List.{AllByRecursion}
+-- The sites of a program by their numbers: what a walk meets stands in its function, and sites of local variables are the program's parts.
+use Rattle.std.specs.Prelude.{◌≡◌, ◌≤◌, ◌-◌, ℕ, List, map, slice_get, Contains, false, Option, Some}
 use Rattle.c_base.specs.declared.labels.OutcomeLabel.{OutcomeLabel}
 use Rattle.atac_facts.specs.declared.fact.Fact.TheVariants.{Outcome, PUse}
 use Rattle.cover_parts.specs.Covered.{Covered}
-use Rattle.c_walk.specs.Items.{Direct, Item, block, decision, def, used}
+use Rattle.c_walk.specs.Items.{Item}
+use Rattle.c_walk.specs.Units as units
 use Rattle.c_walk.specs.Units.{items_of}
-use Rattle.c_tables.specs.Tables.{TablesShape}
+use Rattle.c_syntax.specs.declared.text.Text.{Text}
+use Rattle.c_sites.specs.Names as names
 use Rattle.c_sites.specs.Names.{LeafName, leaf_name}
 use Rattle.c_sites.specs.Numbers.{names_of, number_of}
 use Rattle.c_sites.specs.Kinds.{Decision, DefSite, UseSite}
 use Rattle.c_sites.specs.Lists.{Lists, lists_of}
-use Rattle.c_meaning.specs.Layout.{variable_kind}
 use Rattle.c_meaning.specs.Calls.{Source}
 use Rattle.flow_walks.specs.declared.action.Action.{Action}
 use Rattle.flow_walks.specs.declared.action.Action.TheVariants.{Define, Use, Block, Test, Kill, Nothing}
 use Rattle.flow_walks.specs.Walks.{Walk}
-use Rattle.flow_calls.specs.Orderly.{IsOrderlyProgram}
 use Rattle.flow_misses.specs.Placing.{Local}
-use Rattle.flow_locals.specs.Locals.{is_plain, has_scalar_kind, name_at, locals_of}
-use Rattle.flow_covered.specs.Covering.{run_events}
+use Rattle.flow_parts.specs.Items.{outer_variables, is_among, run_events}
+use Rattle.flow_parts.specs.Parts.{HasParts, parts_of}
 
 -- the sites of a program, with the numbers of their leaf names
 abbrev pub all_items : Source → List Item
@@ -56,54 +55,34 @@ WalksStandInTheirFunction = (P : Source) (f : ℕ) (v : List Action) (a : Action
 
 -- ---- names
 
--- a direct place that is a variable by a plain name has the variable's own name
-abbrev pub IsNamed : TablesShape → Option Direct → Type 0
-IsNamed t None = Unit {0}
-IsNamed t (Some d) = is_plain d.name ≡ true → d.name ≡ name_at t d.variable 0
+-- it isn't declared outside of functions
+abbrev pub IsInner : Source → ℕ → Type 0
+IsInner P x = is_among x (outer_variables P.tables P.unit.externals units.no_items) ≡ false
 
-abbrev pub IsNamedItem : TablesShape → Item → Type 0
-IsNamedItem t (block p) = Unit {0}
-IsNamedItem t (decision p o) = Unit {0}
-IsNamedItem t (def p f d) = IsNamed t d
-IsNamedItem t (used p f d o) = IsNamed t d
+-- the numbers of a site's leaf names
+abbrev pub numbers_of : Source → Local → List ℕ
+numbers_of P v = map (number_of (all_names P)) (map (leaf_name v.variable) v.names)
 
-abbrev pub AreNamed : Source → Type 0
-AreNamed P = AllByRecursion (IsNamedItem P.tables) (all_items P)
+-- it is a site of that variable, with the numbers of the same names, and these are among the program's
+pub record IsPart (P : Source) (n : ℕ) (numbers : List ℕ) (o : Option Local) : Type 0 where
+  pub site : Local
+  pub is : o ≡ Some site
+  pub variable : site.variable ≡ n
+  pub numbered : numbers ≡ numbers_of P site
+  pub named : (y : Text) → Contains site.names y → Contains (names.all_names P.tables.structures (all_items P)) (leaf_name site.variable y)
 
--- the number of a variable's own name
-abbrev pub own_number : Source → ℕ → ℕ
-own_number P x = number_of (all_names P) (leaf_name x (name_at P.tables x 0))
+-- each definition and use of a variable that is declared in a function is one of the program's parts, under the same number
+abbrev pub DefinitionsAreParts : Type 0
+DefinitionsAreParts = (P : Source) (d n : ℕ) (x : DefSite) → IsAt (all_sites P).defs d x → x.variable ≡ Some n → IsInner P n → IsPart P n x.names ((parts_of P).defined d)
 
-abbrev pub HasOwnName : Source → ℕ → Option ℕ → List ℕ → Type 0
-HasOwnName P x variable names = (variable ≡ Some x) × (names ≡ own_number P x ∷ [])
-
--- the definitions and uses that are scalar local variables themselves are there, and their one leaf name is the variable's own
-abbrev pub LocalDefinitionsAreNamed : Type 0
-LocalDefinitionsAreNamed = (P : Source) → AreNamed P → (d : ℕ) (v : Local) → (locals_of P).defined d ≡ Some v → has_scalar_kind (variable_kind P.tables v.variable) ≡ true
-    → (x : DefSite) × IsAt (all_sites P).defs d x × HasOwnName P v.variable x.variable x.names
-
--- a use that is a scalar local variable
-pub record IsLocalUse (P : Source) (u : ℕ) (r : Local) : Type 0 where
-  pub site : UseSite
-  pub at : IsAt (all_sites P).uses u site
-  pub named : HasOwnName P r.variable site.variable site.names
-  pub names : r.names ≡ name_at P.tables r.variable 0 ∷ []
-  pub scalar : has_scalar_kind (variable_kind P.tables r.variable) ≡ true
-  pub plain : is_plain (name_at P.tables r.variable 0) ≡ true
-
-abbrev pub LocalUsesAreNamed : Type 0
-LocalUsesAreNamed = (P : Source) → AreNamed P → (u : ℕ) (r : Local) → (locals_of P).used u ≡ Some r → IsLocalUse P u r
-
--- each definition that has the own name of a used local variable is one of them
-abbrev pub OwnNamesAreTold : Type 0
-OwnNamesAreTold = (P : Source) → AreNamed P → (u : ℕ) (r : Local) → (locals_of P).used u ≡ Some r → (d : ℕ) (x : DefSite) → IsAt (all_sites P).defs d x → x.variable ≡ Some r.variable
-    → Contains x.names (own_number P r.variable) → (v : Local) × ((locals_of P).defined d ≡ Some v) × (v.variable ≡ r.variable) × Contains v.names (name_at P.tables r.variable 0)
+abbrev pub UsesAreParts : Type 0
+UsesAreParts = (P : Source) (u n : ℕ) (x : UseSite) → IsAt (all_sites P).uses u x → x.variable ≡ Some n → IsInner P n → IsPart P n x.names ((parts_of P).used u)
 
 -- ---- outcomes
 
--- each outcome that the events of a run cover is one that is listed of its decision, and so is that of each p-use
+-- of a program with such parts, each outcome that the events of a run cover is one that is listed of its decision, and so is that of each p-use
 abbrev pub CoveredOutcomesAreListed : Type 0
-CoveredOutcomesAreListed = (P : Source) → IsOrderlyProgram P → (owner : ℕ → Option ℕ) (input : List ℕ) (limit k o : ℕ) → Covered owner (run_events P input limit) (Outcome k o) → HasOutcome (all_sites P).decisions k o
+CoveredOutcomesAreListed = (P : Source) → HasParts P → (owner : ℕ → Option ℕ) (input : List ℕ) (limit k o : ℕ) → Covered owner (run_events P input limit) (Outcome k o) → HasOutcome (all_sites P).decisions k o
 
 abbrev pub CoveredPUsesHaveOutcomes : Type 0
-CoveredPUsesHaveOutcomes = (P : Source) → IsOrderlyProgram P → (owner : ℕ → Option ℕ) (input : List ℕ) (limit d u k o : ℕ) → owner u ≡ Some k → Covered owner (run_events P input limit) (PUse d u o) → HasOutcome (all_sites P).decisions k o
+CoveredPUsesHaveOutcomes = (P : Source) → HasParts P → (owner : ℕ → Option ℕ) (input : List ℕ) (limit d u k o : ℕ) → owner u ≡ Some k → Covered owner (run_events P input limit) (PUse d u o) → HasOutcome (all_sites P).decisions k o

@@ -1,4 +1,4 @@
-//! Laws of a program's sites: what a walk meets stands in its function, and what scalar local variables' sites are named.
+//! Laws of a program's sites: what a walk meets stands in its function, and sites of local variables are its parts.
 #![tactic(auto)]
 
 pub mod laws;

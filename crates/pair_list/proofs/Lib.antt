@@ -11,6 +11,7 @@ pub mod Belonging
 pub mod Rowing
 pub mod Joining
 pub mod Placing
+mod Spelled
+mod Searched
 mod Missing
-mod OrderlyProps
 mod MissingRows

@@ -1,8 +1,7 @@
--- A pair that is listed has its rows: so the list misses nothing that runs cover between sites of one scalar local variable or parameter.
-use Rattle.std.proofs.Common.{ℕ, zero, suc, ◌-◌, ◌≡◌, List, [], ◌∷◌, ◌++◌, length, Option, Some, None, refl, ap, sym, subst, ◌∙◌, arith}
+-- A pair that is listed has its rows: so the list misses nothing that runs cover between direct sites of one local variable or parameter.
+use Rattle.std.proofs.Common.{ℕ, zero, suc, ◌-◌, ◌≡◌, ◌⊎◌, inl, inr, List, [], ◌∷◌, ◌++◌, length, Option, Some, None, refl, ap, sym, subst, ◌∙◌, arith}
 use Rattle.std.specs.Prelude.{slice_get, Contains}
 use Rattle.std.proofs.lemmas.List.Elements.{Contains-append_left, Contains-append_right}
-use Rattle.std.proofs.Math.Logic.{∥∥₁_elim}
 use Rattle.std.proofs.lemmas.Option.{slice_get_within}
 use Rattle.c_base.specs.declared.labels.OutcomeLabel.{OutcomeLabel}
 use Rattle.c_syntax.specs.View.{unit_shape}
@@ -19,20 +18,20 @@ use Rattle.c_sites.specs.declared.numbered.Sites.{Sites}
 use Rattle.c_sites.specs.Refused.{AreSites}
 use Rattle.c_meaning.specs.Calls.{Source}
 use Rattle.c_meaning.specs.Sources.{source_of}
-use Rattle.flow_calls.specs.Orderly.{IsOrderlyProgram}
-use Rattle.flow_covered.proofs.Positions.{covered_pairs, covered_p_uses}
-use Rattle.flow_accepted.proofs.Programs.{taken_is_orderly}
-use Rattle.flow_sited.specs.Sites.{AreNamed}
-use Rattle.flow_sited.proofs.Programs.{held_named}
-use Rattle.flow_sited.proofs.Leaves.{none_there}
+use Rattle.flow_fields.specs.Fields.{HaveApartFields}
+use Rattle.flow_fields.proofs.Programs.{programs_have_apart_fields}
+use Rattle.flow_parts.specs.Parts.{HasParts}
+use Rattle.flow_parts.proofs.Positions.{covered_parts, covered_part_p_uses}
+use Rattle.flow_accepted.proofs.Programs.{taken_has_parts}
+use Rattle.flow_sited.proofs.Lists.{none_there}
 use Rattle.flow_sited.proofs.Tested.{covered_p_uses_have_outcomes}
 use Rattle.pair_list.specs.declared.pairs.Pair.{Pair}
 use Rattle.pair_list.specs.Sites.{IsDef, IsUse}
 use Rattle.pair_list.specs.PairLists.{all_pairs, labels_at}
 use Rattle.pair_list.specs.Items.{IsListed, pair_row, with_outcomes, c_use_of, p_uses_of, c_use_at, p_uses_at, c_use_rows, p_use_rows, AreItems}
-use Rattle.pair_list.specs.Missing.{owner_at, AreLocal, Covers, IsPUse, IsAmong, MissesNone}
-use Rattle.pair_list.proofs.OrderlyProps.{orderly_prop}
-use Rattle.pair_list.proofs.Missing.{pair_of, pair_there, those_there, labels_here, owner_is, listed}
+use Rattle.pair_list.specs.Missing.{owner_at, AreLocal, Covers, IsCUse, IsPUse, IsAmong, MissesNone}
+use Rattle.pair_list.proofs.Searched.{either, there}
+use Rattle.pair_list.proofs.Missing.{pair_of, pair_there, those_there, labels_here, owner_is, the_definition, the_use, same, listed}
 
 -- ---- the rows of a pair
 
@@ -76,7 +75,12 @@ module _ (s : Sites) where
 
 -- ---- the list
 
-module _ (program : Program) (s : Sites) (sites : AreSites program s) (items : ItemLists) (are : AreItems (tables_shape program.tables) (unit_shape program.unit) s items) (orderly : IsOrderlyProgram (source_of program)) (named : AreNamed (source_of program)) where
+both : {A B : Type 0} → A ⊎ (A → ⊥) → B ⊎ (B → ⊥) → (A × B) ⊎ (A × B → ⊥)
+both (inl a) (inl b) = inl (a, b)
+both (inl a) (inr no_b) = inr (λ h. no_b h.1)
+both (inr no_a) b = inr (λ h. no_a h.0)
+
+module _ (program : Program) (s : Sites) (sites : AreSites program s) (items : ItemLists) (are : AreItems (tables_shape program.tables) (unit_shape program.unit) s items) where
   abbrev P : Source
   P = source_of program
 
@@ -109,22 +113,57 @@ module _ (program : Program) (s : Sites) (sites : AreSites program s) (items : I
       (w, subst (λ rows. Contains rows w) (sym are.c_uses) (c_use_there s (pair_of d u) f.def f.used f.is_def f.is_use e are.pairs f.there), refl, refl)
   among d u f (Some k) e = λ o l c. p_use_of d u k o l f e c
 
-  pairs_among : (input : List ℕ) (limit d u : ℕ) → AreLocal P d u → Covers P s input limit (fact.Pair d u) → IsAmong s items d u (owner_at s u)
-  pairs_among input limit d u a c =
-      let m = covered_pairs P orderly (owner_at s) input limit d u a.0 a.1 a.2 a.3 a.4 c in
-      let f = found d u (listed P s sites.numbered.lists named m.0 d u a.0 a.1 a.2 a.3 a.4 m.1) in
-      among d u f (owner_at s u) (sym (owner_is P s sites.numbered.lists u f.used f.is_use))
+  -- ---- of a program of the checker
 
-  p_uses_among : (input : List ℕ) (limit d u o : ℕ) → AreLocal P d u → Covers P s input limit (fact.PUse d u o) → IsPUse items d u o
-  p_uses_among input limit d u o a c =
-      let m = covered_p_uses P orderly (owner_at s) input limit d u o a.0 a.1 a.2 a.3 a.4 c in
-      let f = found d u (listed P s sites.numbered.lists named m.0 d u a.0 a.1 a.2 a.3 a.4 m.1) in
-      let h = labels_here P s sites.numbered.lists c.0 o (covered_p_uses_have_outcomes P orderly (owner_at s) input limit d u c.0 o c.1 c) in
-      p_use_of d u c.0 o h.0 f (sym (owner_is P s sites.numbered.lists u f.used f.is_use) ∙ c.1) h.1
+  module _ (holds : HoldsProgram P.unit P.tables) where
+    has : HasParts P
+    has = taken_has_parts P holds.program sites.clean
+
+    fields : HaveApartFields P.tables
+    fields = programs_have_apart_fields P.unit P.tables holds.program
+
+    pairs_among : (input : List ℕ) (limit d u : ℕ) → AreLocal P s d u → Covers P s input limit (fact.Pair d u) → IsAmong s items d u (owner_at s u)
+    pairs_among input limit d u a c =
+        let v = the_definition P s sites.numbered d u a in
+        let r = the_use P s sites.numbered d u a in
+        let m = covered_parts P has (owner_at s) input limit d u v.site r.site v.is r.is (same P s sites.numbered d u a) c in
+        let f = found d u (listed P s sites.numbered d u a fields m.0 m.1) in
+        among d u f (owner_at s u) (sym (owner_is P s sites.numbered u f.used f.is_use))
+
+    p_uses_among : (input : List ℕ) (limit d u o : ℕ) → AreLocal P s d u → Covers P s input limit (fact.PUse d u o) → IsPUse items d u o
+    p_uses_among input limit d u o a c =
+        let v = the_definition P s sites.numbered d u a in
+        let r = the_use P s sites.numbered d u a in
+        let m = covered_part_p_uses P has (owner_at s) input limit d u o v.site r.site v.is r.is (same P s sites.numbered d u a) c in
+        let f = found d u (listed P s sites.numbered d u a fields m.0 m.1) in
+        let h = labels_here P s sites.numbered c.0 o (covered_p_uses_have_outcomes P has (owner_at s) input limit d u c.0 o c.1 c) in
+        p_use_of d u c.0 o h.0 f (sym (owner_is P s sites.numbered u f.used f.is_use) ∙ c.1) h.1
+
+  -- ---- and of what a program holds
+
+  module _ (held : ∥ HoldsProgram P.unit P.tables ∥₁) where
+    abbrev IsPRow : ℕ → ℕ → ℕ → PUseRow → Type 0
+    IsPRow d u o row = (row.pair.def ≡ d) × ((row.pair.user ≡ u) × (row.outcome ≡ o))
+
+    p_use : (d u o : ℕ) → (HoldsProgram P.unit P.tables → IsPUse items d u o) → IsPUse items d u o
+    p_use d u o f =
+        let r = there (IsPRow d u o) (λ row. both (either row.pair.def d) (both (either row.pair.user u) (either row.outcome o))) items.p_uses held (λ h. let g = f h in (g.0, g.1, (g.2, (g.3, g.4)))) in
+        (r.0, r.1, r.2.0, r.2.1.0, r.2.1.1)
+
+    abbrev IsCRow : ℕ → ℕ → PairRow → Type 0
+    IsCRow d u row = (row.def ≡ d) × (row.user ≡ u)
+
+    c_use : (d u : ℕ) → (HoldsProgram P.unit P.tables → IsCUse items d u) → IsCUse items d u
+    c_use d u f =
+        let r = there (IsCRow d u) (λ row. both (either row.def d) (either row.user u)) items.c_uses held (λ h. let g = f h in (g.0, g.1, (g.2, g.3))) in
+        (r.0, r.1, r.2.0, r.2.1)
+
+    is_among : (d u : ℕ) (q : Option ℕ) → (HoldsProgram P.unit P.tables → IsAmong s items d u q) → IsAmong s items d u q
+    is_among d u None f = c_use d u f
+    is_among d u (Some k) f = λ o l c. p_use d u o (λ h. f h o l c)
 
 pub misses_none : (program : Program) (s : Sites) → AreSites program s → (items : ItemLists) → AreItems (tables_shape program.tables) (unit_shape program.unit) s items → ∥ HoldsProgram (unit_shape program.unit) (tables_shape program.tables) ∥₁ → MissesNone (source_of program) s items
-misses_none program s sites items are held =
-    let P = source_of program in
-    let named = held_named P held in
-    let orderly = ∥∥₁_elim held (orderly_prop P) (λ h. taken_is_orderly P h.program sites.clean) in
-    record { pairs = pairs_among program s sites items are orderly named; p_uses = p_uses_among program s sites items are orderly named }
+misses_none program s sites items are held = record {
+  pairs = λ input limit d u a c. is_among program s sites items are held d u (owner_at s u) (λ h. pairs_among program s sites items are h input limit d u a c);
+  p_uses = λ input limit d u o a c. p_use program s sites items are held d u o (λ h. p_uses_among program s sites items are h input limit d u o a c);
+}

@@ -1,0 +1,5 @@
+mod OwnStates
+mod OwnNodes
+mod OwnParts
+mod OwnUnits
+pub mod Programs

@@ -1,0 +1,4 @@
+mod Given
+mod Walks
+mod Definitions
+pub mod Programs

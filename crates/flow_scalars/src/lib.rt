@@ -1,0 +1,4 @@
+//! The law that parameters of functions are scalars.
+#![tactic(auto)]
+
+pub mod laws;
