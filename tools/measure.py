@@ -3,12 +3,14 @@
 
     tools/measure.py [-- rt ci [NAME..]]     runs the command (rt ci, if none is given) and prints a table in Markdown
     tools/measure.py --chain                 prints the crates of crates.txt by level, and the longest chain
+    tools/measure.py --paths                 prints for how many paths below them, times imports in clauses, `rt ci` works before its first build
 
 Call it in the repository. What the command says goes to stderr. Twice a second it is looked up in /proc which processes the
 command has started, and what they and their own children have used; what a process used after it was last looked at is taken
 from the time of ended children that the command is charged with. So the sum is that of the command, but for processes that
 ended between two looks: these are in the row `not seen`.
 """
+import glob
 import os
 import re
 import subprocess
@@ -44,6 +46,23 @@ def longest(uses, weight=lambda name: 1):
         return chains[name]
 
     return max((visit(it) for it in uses), key=lambda it: it[0], default=(0, [])), levels
+
+
+def paths(uses):
+    """Returns, for each crate, the paths of the graph that begin at it, and the names that the clauses of its files import."""
+    found = {}
+
+    def visit(name):
+        if name not in found:
+            found[name] = 1 + sum(visit(it) for it in uses[name])
+        return found[name]
+
+    def imports(name):
+        files = glob.glob(f"{TOP}/crates/{name}/src/**/*.rt", recursive=True)
+        rows = [it for file in files for it in re.findall(r"\bghost use [^;]*;", open(file, encoding="utf-8").read())]
+        return sum(it.count(",") + 1 for it in rows)
+
+    return {name: (visit(name), imports(name)) for name in uses}
 
 
 def processes():
@@ -184,10 +203,16 @@ def main(words):
             print(f"{level}: {' '.join(sorted(it for it in levels if levels[it] == level))}")
         print(f"The longest chain has {len(chain)} crates: {' '.join(chain)}")
         return 0
+    if words == ["--paths"]:
+        rows = sorted(paths(crates()).items(), key=lambda it: -it[1][0] * it[1][1])
+        for name, (ways, imported) in rows[:12]:
+            print(f"{name}: {ways} paths, {imported} imports")
+        print(f"The sum of the products is {sum(ways * imported for _, (ways, imported) in rows)}.")
+        return 0
     if words[:1] == ["--"]:
         words = words[1:] or ["rt", "ci"]
     elif words:
-        print("usage: tools/measure.py [-- COMMAND ..] | --chain", file=sys.stderr)
+        print("usage: tools/measure.py [-- COMMAND ..] | --chain | --paths", file=sys.stderr)
         return 2
     return measure(words or ["rt", "ci"])
 

@@ -31,8 +31,8 @@ use Rattle.probe_laws.proofs.Laws.{taken_is_plain, taken_is_few}
 use Rattle.probe_laws.proofs.Owners.{program_owns, program_owns_few}
 use Rattle.probe_text.specs.Text.{text_in}
 use Rattle.probe_programs.specs.Programs.{IsDigest, IsPlainProgram}
-use Rattle.probe_reads.specs.ReadBack.{ReadsAs}
-use Rattle.probe_reads.proofs.ReadBack.{written_reads_back}
+use Rattle.probe_kept.specs.ReadBack.{ReadsAs}
+use Rattle.probe_kept.proofs.ReadBack.{written_reads_back}
 use Rattle.probe_kept.specs.Kept.{RunsAs}
 use Rattle.probe_kept.proofs.Kept.{kept_runs}
 use Rattle.atac_programs.specs.Programs.{IsAccepted, IsInstrumented, IsProbed, program_in, with_probes, events, shown_by, met_by, owner_in_probed}

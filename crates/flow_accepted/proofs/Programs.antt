@@ -3,14 +3,14 @@ use Rattle.std.proofs.Common.{sym, subst, ◌∙◌}
 use Rattle.c_tree.specs.Programs.{IsProgram}
 use Rattle.c_meaning.specs.Calls.{Source}
 use Rattle.flow_initial.specs.Lengths.{AreFilled}
-use Rattle.flow_orderly.specs.Initialised.{AreInitialised}
-use Rattle.flow_orderly.proofs.Laws as orderly
-use Rattle.flow_parameters.proofs.Begun.{parameters_have_rows}
-use Rattle.flow_constants.proofs.Programs.{rows_suffice}
-use Rattle.flow_kinds.proofs.KindedUnits.{accepted_is_kinded}
-use Rattle.flow_layers.proofs.Programs.{accepted_is_layered}
+use Rattle.flow_values.specs.Initialised.{AreInitialised}
+use Rattle.flow_accepted.proofs.OrderlyPrograms as orderly
+use Rattle.flow_values.proofs.Begun.{parameters_have_rows}
+use Rattle.flow_values.proofs.FilePrograms.{rows_suffice}
+use Rattle.flow_accepted.proofs.KindedUnits.{accepted_is_kinded}
+use Rattle.flow_accepted.proofs.Layered.{accepted_is_layered}
 use Rattle.flow_owned.proofs.Programs.{same_tables, programs_own_their_names}
-use Rattle.flow_scalars.proofs.Programs.{programs_have_scalar_parameters}
+use Rattle.flow_accepted.proofs.Scalars.{programs_have_scalar_parameters}
 use Rattle.flow_initial.proofs.Arrays.{arrays_are_filled}
 use Rattle.flow_parts.proofs.Positions.{covered_parts, covered_part_p_uses}
 use Rattle.flow_accepted.specs.Laws.{TakenIsOrderly, TakenHasParts, TakenCallsWalk, TakenCallsLeave, TakenPairsAreListed, TakenPUsesAreListed}

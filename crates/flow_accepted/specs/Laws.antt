@@ -10,8 +10,8 @@ use Rattle.c_meaning.specs.Runs.{run_heard}
 use Rattle.probe_laws.specs.Laws.{IsTaken}
 use Rattle.flow_calls.specs.Orderly.{IsOrderlyProgram}
 use Rattle.flow_calls.specs.Walking.{IsWalking, IsLeaving}
-use Rattle.flow_misses.specs.Placing.{Local}
-use Rattle.flow_misses.specs.Pairs.{IsListed}
+use Rattle.flow_calls.specs.Placing.{Local}
+use Rattle.flow_calls.specs.Pairs.{IsListed}
 use Rattle.flow_parts.specs.Items.{run_events}
 use Rattle.flow_parts.specs.Parts.{HasParts, parts_of}
 

@@ -1,1 +1,3 @@
+pub mod Orderly
+pub mod Tables
 pub mod Laws

@@ -1,4 +1,4 @@
-//! The laws, as contracts.
+//! The laws of runs, as contracts.
 
 ghost use Rattle.flow_accepted.specs.Laws.{TakenIsOrderly, TakenHasParts, TakenCallsWalk, TakenCallsLeave, TakenPairsAreListed, TakenPUsesAreListed};
 

@@ -12,3 +12,8 @@ pub mod Early
 pub mod Routines
 pub mod Laws
 mod Worked
+pub mod Lists
+pub mod Made
+pub mod Told
+pub mod Pairs
+mod WorkedPairs

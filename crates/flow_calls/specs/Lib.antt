@@ -1,3 +1,5 @@
 pub mod Readings
 pub mod Orderly
 pub mod Walking
+pub mod Placing
+pub mod Pairs

@@ -1,4 +1,4 @@
-//! The laws, as contracts.
+//! The laws on calls, as contracts.
 
 ghost use Rattle.flow_calls.specs.Walking.{EachCallWalks, EachCallLeaves};
 

@@ -8,13 +8,13 @@ use Rattle.c_store.specs.Cells.{cell_of}
 use Rattle.c_tables.specs.Tables.{TablesShape}
 use Rattle.c_meaning.specs.State.{found_in, found_within, or_else}
 use Rattle.c_meaning.specs.Layout.{cells, variable_kind}
-use Rattle.flow_misses.proofs.Lists.{some_not, or_some}
+use Rattle.flow_calls.proofs.Lists.{some_not, or_some}
 use Rattle.flow_places.specs.Sited.{StandsFor}
-use Rattle.flow_elements.specs.Parts.{IsPart}
-use Rattle.flow_elements.specs.Standing.{root_of, StandsAt}
-use Rattle.flow_elements.specs.Names.{cell_names, AreLayered}
-use Rattle.flow_elements.proofs.Layers.{parts_have_names}
-use Rattle.flow_elements.proofs.Places.{places_stand}
+use Rattle.flow_leaves.specs.Parts.{IsPart}
+use Rattle.flow_leaves.specs.Standing.{root_of, StandsAt}
+use Rattle.flow_leaves.specs.CellNames.{cell_names, AreLayered}
+use Rattle.flow_leaves.proofs.Layers.{parts_have_names}
+use Rattle.flow_leaves.proofs.Places.{places_stand}
 use Rattle.flow_leaves.specs.Leaves.{text_in, name_in, leaf_in, DirectPlacesAreFound, DirectSitesMayBeTold}
 
 -- a scalar is one cell, which has its name

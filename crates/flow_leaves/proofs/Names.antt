@@ -11,10 +11,10 @@ use Rattle.c_walk.specs.Places.{element_text, field_text}
 use Rattle.c_sites.specs.Names.{field_leaves, type_leaves, leaves, depth_of}
 use Rattle.c_meaning.specs.Layout.{Part, cells, kind_in, part_from, variable_kind}
 use Rattle.flow_initial.specs.Lengths.{IsFilled, HasFilledFields, AreFilled}
-use Rattle.flow_elements.specs.Parts.{IsPart, itself, element, member}
-use Rattle.flow_elements.specs.Names.{field_names, type_names, names_to}
-use Rattle.flow_elements.proofs.Layers.{some_same}
-use Rattle.flow_leaves.specs.Names.{CellNamesAreLeaves, LeavesAreCellNames}
+use Rattle.flow_leaves.specs.Parts.{IsPart, itself, element, member}
+use Rattle.flow_leaves.specs.CellNames.{field_names, type_names, names_to}
+use Rattle.flow_leaves.proofs.Layers.{some_same}
+use Rattle.flow_leaves.specs.LeafNames.{CellNamesAreLeaves, LeavesAreCellNames}
 
 -- ---- lists
 

@@ -13,14 +13,14 @@ use Rattle.c_sites.specs.Names.{site_leaves}
 use Rattle.c_meaning.specs.State.{Bound, found_in, found_within}
 use Rattle.c_meaning.specs.Layout.{cells, variable_kind}
 use Rattle.flow_initial.specs.Lengths.{AreFilled, IsFilled}
-use Rattle.flow_misses.specs.Placing.{Local, Sites}
+use Rattle.flow_calls.specs.Placing.{Local, Sites}
 use Rattle.flow_places.specs.Sited.{StandsWhole, AreNamedFrom, AreAllFrom, IsUsedWhole, IsDefinedWhole}
-use Rattle.flow_kinds.specs.Kinded.{IsKinded}
-use Rattle.flow_elements.specs.Parts.{IsPart, itself}
-use Rattle.flow_elements.specs.Standing.{root_of, StandsAt}
-use Rattle.flow_elements.specs.Names.{cell_names, AreLayered}
-use Rattle.flow_elements.proofs.Layers.{some_same, names_counted, parts_have_names}
-use Rattle.flow_elements.proofs.Places.{places_stand}
+use Rattle.flow_leaves.specs.Kinded.{IsKinded}
+use Rattle.flow_leaves.specs.Parts.{IsPart, itself}
+use Rattle.flow_leaves.specs.Standing.{root_of, StandsAt}
+use Rattle.flow_leaves.specs.CellNames.{cell_names, AreLayered}
+use Rattle.flow_leaves.proofs.Layers.{some_same, names_counted, parts_have_names}
+use Rattle.flow_leaves.proofs.Places.{places_stand}
 use Rattle.flow_leaves.specs.Leaves.{text_in, name_in, leaf_in, HasCells, DirectWholesAreFound}
 use Rattle.flow_leaves.proofs.Leaves.{local_instance}
 use Rattle.flow_leaves.proofs.Names.{cell_names_are_leaves, leaves_are_cell_names, variable_filled, part_filled}

@@ -10,11 +10,11 @@ use Rattle.c_walk.specs.Items.{Direct}
 use Rattle.c_walk.specs.Places.{direct}
 use Rattle.c_meaning.specs.State.{Bound, found_in}
 use Rattle.c_meaning.specs.Layout.{cells, variable_kind}
-use Rattle.flow_misses.specs.Placing.{Local, Sites}
+use Rattle.flow_calls.specs.Placing.{Local, Sites}
 use Rattle.flow_places.specs.Sited.{StandsFor, IsUsedAt, IsDefinedAt, StandsWhole}
-use Rattle.flow_kinds.specs.Kinded.{IsKinded}
-use Rattle.flow_elements.specs.Standing.{root_of}
-use Rattle.flow_elements.specs.Names.{cell_names, AreLayered}
+use Rattle.flow_leaves.specs.Kinded.{IsKinded}
+use Rattle.flow_leaves.specs.Standing.{root_of}
+use Rattle.flow_leaves.specs.CellNames.{cell_names, AreLayered}
 
 -- ---- leaf names
 

@@ -1,4 +1,6 @@
-//! Scalar elements and fields of local variables are sites that may be told of, by their leaf names; structures and arrays stand as wholes.
+//! Elements, fields and structures: where they lie in their variables, what their cells are called, and that those in local variables are
+//! sites that may be told of by their leaf names.
 #![tactic(auto)]
 
-pub mod laws;
+pub mod elements;
+pub mod sites;

@@ -23,9 +23,9 @@ use Rattle.c_meaning.specs.Calls.{Source}
 use Rattle.flow_calls.specs.Orderly.{IsString, IsOrderly, IsOrderlyInit, IsOrderlyVariable, IsOrderlyDeclarator, AreOrderlyDeclarators, IsOrderlyDecl, AreOrderlyDecls, IsOrderlyStmt, IsOrderlyBody, IsOrderlyPart, IsOrderlyCompound, AreOrderlyItems}
 use Rattle.flow_initial.specs.Lengths.{AreFilled}
 use Rattle.flow_places.specs.Declared.{AreNamed, DefinesBy, IsInitial, IsSitedVariable, IsSitedDeclarator, AreSitedDeclarators, IsSitedDecl, AreSitedDecls, IsSitedStmt, IsSitedBody, IsSitedPart, IsSitedCompound, AreSitedItems}
-use Rattle.flow_kinds.specs.Kinded.{IsKinded}
-use Rattle.flow_kinds.specs.Programs.{IsKindedMaybeInit, IsKindedDeclarator, AreKindedDeclarators, IsKindedDecl, AreKindedDecls, IsKindedStmt, IsKindedBody, IsKindedCompound, AreKindedItems}
-use Rattle.flow_elements.specs.Names.{AreLayered}
+use Rattle.flow_leaves.specs.Kinded.{IsKinded}
+use Rattle.flow_leaves.specs.KindedPrograms.{IsKindedMaybeInit, IsKindedDeclarator, AreKindedDeclarators, IsKindedDecl, AreKindedDecls, IsKindedStmt, IsKindedBody, IsKindedCompound, AreKindedItems}
+use Rattle.flow_leaves.specs.CellNames.{AreLayered}
 use Rattle.flow_leaves.specs.Leaves.{name_in, leaf_in}
 use Rattle.flow_leaves.proofs.Wholes.{whole_named}
 use Rattle.flow_owned.specs.Own as owned

@@ -9,10 +9,9 @@ use Rattle.c_tables.specs.Rows.{row}
 use Rattle.c_walk.specs.Items.{Direct, Item, block, decision, def, used}
 use Rattle.c_walk.specs.Places.{has_array, direct, direct_form, with_part, element_text, field_text}
 use Rattle.c_walk.specs.Counted.{def_count, use_count}
-use Rattle.flow_elements.specs.Standing.{root_of, form_root}
+use Rattle.flow_leaves.specs.Standing.{root_of, form_root}
 use Rattle.flow_parts.specs.Items.{def_at, use_at}
-use Rattle.flow_owned.specs.Own.{name_in}
-use Rattle.flow_owned.specs.Own.{IsOwnNode, HasOwnNames}
+use Rattle.flow_owned.specs.Own.{name_in, IsOwnNode, HasOwnNames}
 
 -- ---- items
 

@@ -24,7 +24,7 @@ use Rattle.c_meaning.specs.Places.{first_cell, next_cell, logs_one, logs, log_de
 use Rattle.c_meaning.specs.Declarations.{new_instance, bind_file, name_marks, filled, file_cells, file_variable, file_name, file_names}
 use Rattle.c_meaning.specs.Calls.{Source}
 use Rattle.c_meaning.specs.Runs.{literals_made, external_made, externals_made, all_made}
-use Rattle.flow_misses.proofs.Lists.{if_off}
+use Rattle.flow_calls.proofs.Lists.{if_off}
 use Rattle.flow_parts.specs.Items.{is_among, outer_names, outer_variables}
 
 pub among_parts : (x : ℕ) (xs ys : List ℕ) → is_among x (xs ++ ys) ≡ false → (is_among x xs ≡ false) × (is_among x ys ≡ false)

@@ -4,7 +4,7 @@ use Rattle.c_events.specs.declared.events.Cell.{Cell}
 use Rattle.c_events.specs.declared.events.Event.{Event}
 use Rattle.c_events.specs.declared.events.Event.TheVariants as event
 use Rattle.cover_parts.specs.Covered.{Reaches}
-use Rattle.flow_misses.specs.Pairs.{HasPair}
+use Rattle.flow_calls.specs.Pairs.{HasPair}
 use Rattle.flow_parts.specs.Parts.{CoveredPartsAreListed, CoveredPartPUsesAreListed}
 use Rattle.flow_parts.proofs.Laws.{part_pairs_are_listed}
 

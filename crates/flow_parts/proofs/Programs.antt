@@ -20,13 +20,13 @@ use Rattle.flow_calls.specs.Orderly.{IsOrderlyFunction, AreOrderlyExternals}
 use Rattle.flow_calls.proofs.Cases.{le_not, le_is}
 use Rattle.flow_places.specs.Declared.{IsParameterOf, IsSitedParam, AreSitedParams, IsSitedLine, AreSitedLines, IsSitedSignature, IsUnsited, AreUnsited, IsSitedFunction, AreSitedExternals, AreUnsitedExternals}
 use Rattle.flow_initial.specs.Lengths.{AreFilled}
-use Rattle.flow_kinds.specs.Programs.{IsKindedCompound, AreKindedExternals}
-use Rattle.flow_elements.specs.Names.{AreLayered}
+use Rattle.flow_leaves.specs.KindedPrograms.{IsKindedCompound, AreKindedExternals}
+use Rattle.flow_leaves.specs.CellNames.{AreLayered}
 use Rattle.flow_parts.specs.Items.{def_at}
 use Rattle.flow_leaves.specs.Leaves.{name_in}
 use Rattle.flow_owned.specs.Own as owned
 use Rattle.flow_owned.specs.Own.{IsOwnCompound, AreOwnExternals}
-use Rattle.flow_scalars.specs.Parameters.{IsScalarKind, IsScalarParam, AreScalarParams, IsScalarLine, AreScalarLines, HasScalarParameters, AreScalarParameters}
+use Rattle.flow_parts.specs.Parameters.{IsScalarKind, IsScalarParam, AreScalarParams, IsScalarLine, AreScalarLines, HasScalarParameters, AreScalarParameters}
 use Rattle.flow_parts.specs.Parts.{leaf_at, part_of, parameter_of, defined_in}
 use Rattle.flow_parts.proofs.More.{More, on_same, on_further, more_defs, defs_both, block_on, defined_on, all_defined_on, param_on, given_on, signature_on, compound_on, external_on, externals_on}
 use Rattle.flow_parts.proofs.Found.{def_there}

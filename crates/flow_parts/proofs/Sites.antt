@@ -24,11 +24,11 @@ use Rattle.c_meaning.specs.State.{Bound, found_in}
 use Rattle.c_meaning.specs.Calls.{Source}
 use Rattle.flow_walks.specs.Expressions.{holds_place, form_holds_place, holds_scalar, form_holds_scalar}
 use Rattle.flow_calls.specs.Orderly.{is_copied, form_is_copied, IsOrderly, HasOrder, AreOrderly, IsOrderlyMaybe}
-use Rattle.flow_misses.specs.Placing.{Local, Sites}
+use Rattle.flow_calls.specs.Placing.{Local, Sites}
 use Rattle.flow_places.specs.Sited.{variable_named, form_names, IsUse, IsDefinition, IsUsedAt, IsDefinedAt, IsUsedWhole, IsDefinedWhole, IsReadSite, IsUsedSite, IsDefinedSite, IsCopied, IsSited, IsFormSited, IsTestSited, IsArmSited, AreSited, IsMaybeSited, IsLoopTestSited, IsStepSited}
 use Rattle.flow_initial.specs.Lengths.{AreFilled}
-use Rattle.flow_kinds.specs.Kinded.{IsKinded, AreKinded, IsKindedMaybe}
-use Rattle.flow_elements.specs.Names.{AreLayered}
+use Rattle.flow_leaves.specs.Kinded.{IsKinded, AreKinded, IsKindedMaybe}
+use Rattle.flow_leaves.specs.CellNames.{AreLayered}
 use Rattle.flow_leaves.specs.Leaves.{leaf_in}
 use Rattle.flow_leaves.proofs.Leaves.{sites_may_be_told}
 use Rattle.flow_leaves.proofs.Wholes.{wholes_may_be_told}

@@ -9,11 +9,11 @@ use Rattle.c_tables.specs.Tables.{StructShape, FieldShape}
 use Rattle.c_tables.specs.Rows.{row, fields_in}
 use Rattle.c_walk.specs.Places.{element_text, field_text}
 use Rattle.c_meaning.specs.Layout.{variable_kind}
-use Rattle.flow_elements.specs.Names.{field_names, names_to, cell_names}
-use Rattle.flow_elements.proofs.Layers.{some_same}
+use Rattle.flow_leaves.specs.CellNames.{field_names, names_to, cell_names}
+use Rattle.flow_leaves.proofs.Layers.{some_same}
 use Rattle.flow_leaves.specs.Leaves.{text_in, name_in}
 use Rattle.flow_owned.specs.Own as owned
-use Rattle.flow_fields.specs.Fields.{is_plain, AreApart}
+use Rattle.flow_owned.specs.Fields.{is_plain, AreApart}
 use Rattle.flow_parts.specs.Strong.{HasIndex, PartNamesAreStrong}
 
 -- ---- lists

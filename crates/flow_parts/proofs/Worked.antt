@@ -19,14 +19,14 @@ use Rattle.c_meaning.specs.Deeds.{told}
 use Rattle.c_meaning.specs.Calls.{Source, calls}
 use Rattle.c_meaning.specs.Runs.{run_heard}
 use Rattle.flow_calls.specs.Orderly.{IsOrderlyProgram}
-use Rattle.flow_misses.specs.Placing.{Local, IsStrong}
-use Rattle.flow_misses.specs.Pairs.{HasPair, IsListed}
-use Rattle.flow_elements.specs.Names.{depth_in, AreLayered}
+use Rattle.flow_calls.specs.Placing.{Local, IsStrong}
+use Rattle.flow_calls.specs.Pairs.{HasPair, IsListed}
+use Rattle.flow_leaves.specs.CellNames.{depth_in, AreLayered}
 use Rattle.flow_parts.specs.Parts.{parts_of, HasParts}
-use Rattle.flow_fields.specs.Fields.{AreApart}
+use Rattle.flow_owned.specs.Fields.{AreApart}
 use Rattle.flow_parts.specs.Strong.{HasIndex}
 use Rattle.flow_parts.proofs.Laws.{part_pairs_are_listed}
-use Rattle.flow_elements.proofs.Layers.{some_same}
+use Rattle.flow_leaves.proofs.Layers.{some_same}
 use Rattle.flow_parts.proofs.Strong.{none_some, head_of, part_names_are_strong}
 
 -- ---- how the unit is spelled here

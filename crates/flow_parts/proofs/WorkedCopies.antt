@@ -14,10 +14,10 @@ use Rattle.c_meaning.specs.Deeds.{told}
 use Rattle.c_meaning.specs.Calls.{Source, calls}
 use Rattle.c_meaning.specs.Runs.{run_heard}
 use Rattle.flow_calls.specs.Orderly.{IsOrderlyProgram}
-use Rattle.flow_misses.specs.Placing.{Local}
-use Rattle.flow_misses.specs.Pairs.{HasPair, IsListed}
-use Rattle.flow_misses.proofs.Lists.{heads, tails}
-use Rattle.flow_elements.specs.Names.{AreLayered}
+use Rattle.flow_calls.specs.Placing.{Local}
+use Rattle.flow_calls.specs.Pairs.{HasPair, IsListed}
+use Rattle.flow_calls.proofs.Lists.{heads, tails}
+use Rattle.flow_leaves.specs.CellNames.{AreLayered}
 use Rattle.flow_parts.specs.Parts.{parts_of, HasParts}
 use Rattle.flow_parts.proofs.Laws.{part_pairs_are_listed}
 use Rattle.flow_parts.proofs.Worked.{at, main_text, f_text, g_text, s_text, e, one, ints, named, pair_fields, structures, first, of_rows, flat}

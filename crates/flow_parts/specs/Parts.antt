@@ -17,15 +17,15 @@ use Rattle.c_meaning.specs.Deeds.{told}
 use Rattle.c_meaning.specs.Calls.{Source}
 use Rattle.c_meaning.specs.Runs.{run_heard}
 use Rattle.flow_calls.specs.Orderly.{IsOrderlyProgram}
-use Rattle.flow_misses.specs.Placing.{Local, Sites}
-use Rattle.flow_misses.specs.Pairs.{HasPair, IsListed}
+use Rattle.flow_calls.specs.Placing.{Local, Sites}
+use Rattle.flow_calls.specs.Pairs.{HasPair, IsListed}
 use Rattle.flow_places.specs.Declared.{AreSitesOf}
 use Rattle.flow_initial.specs.Lengths.{AreFilled}
-use Rattle.flow_kinds.specs.Programs.{AreKindedExternals}
-use Rattle.flow_elements.specs.Names.{AreLayered}
+use Rattle.flow_leaves.specs.KindedPrograms.{AreKindedExternals}
+use Rattle.flow_leaves.specs.CellNames.{AreLayered}
 use Rattle.flow_leaves.specs.Leaves.{leaf_in}
 use Rattle.flow_owned.specs.Own.{name_in, AreOwnExternals}
-use Rattle.flow_scalars.specs.Parameters.{AreScalarParameters}
+use Rattle.flow_parts.specs.Parameters.{AreScalarParameters}
 use Rattle.flow_parts.specs.Items.{def_at, use_at, outer_variables, is_among, run_events}
 
 -- ---- sites

@@ -2,8 +2,8 @@
 use Rattle.std.specs.Prelude.{◌≡◌, ℕ, ◌+◌, slice_get, Some}
 use Rattle.c_syntax.specs.declared.text.Text.{Text}
 use Rattle.c_meaning.specs.Calls.{Source}
-use Rattle.flow_misses.specs.Placing.{IsStrong}
-use Rattle.flow_fields.specs.Fields.{HaveApartFields}
+use Rattle.flow_calls.specs.Placing.{IsStrong}
+use Rattle.flow_owned.specs.Fields.{HaveApartFields}
 use Rattle.flow_parts.specs.Parts.{parts_of}
 
 -- `[]` stands in the name

@@ -1,4 +1,4 @@
-//! The laws, as contracts.
+//! The laws on pairs and names, as contracts.
 
 ghost use Rattle.flow_parts.specs.Parts.{PartsAreSites, PartPairsAreListed, CoveredPartsAreListed, CoveredPartPUsesAreListed};
 ghost use Rattle.flow_parts.specs.Strong.{PartNamesAreStrong};

@@ -3,9 +3,9 @@ use Rattle.std.proofs.Common.{ℕ, ◌≤◌, ◌<◌, List, [], ◌∷◌, ◌+
 use Rattle.std.specs.Prelude.{nat_eq, if◌then◌else◌}
 use Rattle.std.proofs.lemmas.Bool.{ne_eqb, true≢false}
 use Rattle.c_meaning.specs.State.{Act, Deed, Bound, Call, activation_in, found_in, found_among, found_within, or_else, with_bound, in_call, opened, tail_of}
-use Rattle.flow_misses.specs.Placing.{Sites, made_in, made_by, last_made, number_of, IsNewest, At, AreInPlace}
-use Rattle.flow_misses.proofs.Lists.{snoc_split, or_none, or_some, if_some, if_on, if_off, are_equal, same_eq, some_not}
-use Rattle.flow_misses.proofs.Made.{last_append}
+use Rattle.flow_calls.specs.Placing.{Sites, made_in, made_by, last_made, number_of, IsNewest, At, AreInPlace}
+use Rattle.flow_calls.proofs.Lists.{snoc_split, or_none, or_some, if_some, if_on, if_off, are_equal, same_eq, some_not}
+use Rattle.flow_calls.proofs.Made.{last_append}
 
 if_none : (b : Bool) (j : ℕ) (o : Option ℕ) → (if b then Some j else o) ≡ None → (b ≡ false) × (o ≡ None)
 if_none true j o e = absurd (some_not j (sym e))

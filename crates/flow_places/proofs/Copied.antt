@@ -17,7 +17,7 @@ use Rattle.c_meaning.specs.Results.{Got, Gives, then_do, untyped, settled}
 use Rattle.c_meaning.specs.Firsts.{First, heard, cell_at}
 use Rattle.c_meaning.specs.Places.{first_of, cells_used, cells_defined, alike_in_size, copied_cells, copied}
 use Rattle.flow_walks.specs.declared.action.Action.TheVariants as action
-use Rattle.flow_misses.specs.Placing.{Local, Sites, InPlace, UsedAt, IsDefined, DefinedAt, IsRepeated, IsUsedAgain, IsStrong, further, IsFinished}
+use Rattle.flow_calls.specs.Placing.{Local, Sites, InPlace, UsedAt, IsDefined, DefinedAt, IsRepeated, IsUsedAgain, IsStrong, further, IsFinished}
 use Rattle.flow_places.specs.Sited.{AreNamedFrom, AreAllFrom}
 use Rattle.flow_places.proofs.Bound.{AllBound, one_active, found_is, deed}
 use Rattle.flow_places.proofs.Finished.{finished_copy}

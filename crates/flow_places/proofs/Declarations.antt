@@ -36,7 +36,7 @@ use Rattle.c_meaning.proofs.Apart.{own_append}
 use Rattle.c_meaning.proofs.Declared.{declarator_count}
 use Rattle.flow_walks.specs.declared.action.Action.TheVariants.{Define}
 use Rattle.flow_calls.proofs.Own.{own_here}
-use Rattle.flow_misses.specs.Placing.{Local, Sites, InPlace, HasOneName, IsDefined, DefinedAt, IsRepeated, At}
+use Rattle.flow_calls.specs.Placing.{Local, Sites, InPlace, HasOneName, IsDefined, DefinedAt, IsRepeated, At}
 use Rattle.flow_places.specs.Sited.{IsSited}
 use Rattle.flow_places.specs.Declared.{AreNamed, DefinesBy, IsInitial, IsSitedVariable, IsSitedDeclarator, AreSitedDeclarators, IsSitedDecl, AreSitedDecls}
 use Rattle.flow_places.proofs.Bound.{Below, below_more, made_below, made_tail, found_is, found_made}

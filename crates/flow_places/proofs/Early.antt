@@ -25,7 +25,7 @@ use Rattle.c_meaning.specs.Places.{first_cell, next_cell, logs_one, logs, log_de
 use Rattle.c_meaning.specs.Declarations.{new_instance, bind_file, name_marks, filled, file_cells, file_variable, file_name, file_names}
 use Rattle.c_meaning.specs.Calls.{Source}
 use Rattle.c_meaning.specs.Runs.{literals_made, external_made, externals_made, all_made}
-use Rattle.flow_misses.specs.Placing.{Sites, IsNewest, DefinedAt, IsRepeated, At}
+use Rattle.flow_calls.specs.Placing.{Sites, IsNewest, DefinedAt, IsRepeated, At}
 use Rattle.flow_places.specs.Declared.{IsUnsited, AreUnsited, AreUnsitedExternals}
 use Rattle.flow_places.proofs.Bound.{newest_more, placed_more}
 use Rattle.flow_places.proofs.Finished.{AreRight, IsOne, OneAt, finished_more}

@@ -5,8 +5,8 @@ use Rattle.c_events.specs.declared.events.Cell.{Cell}
 use Rattle.c_events.specs.declared.events.Event.{Event}
 use Rattle.c_events.specs.declared.events.Event.TheVariants as event
 use Rattle.c_meaning.specs.State.{Act, tells, Deed}
-use Rattle.flow_misses.specs.Placing.{Local, Sites, AreInPlace, HasOneName, further, IsFinished, AreFinished}
-use Rattle.flow_misses.proofs.Lists.{heads, tails, longer}
+use Rattle.flow_calls.specs.Placing.{Local, Sites, AreInPlace, HasOneName, further, IsFinished, AreFinished}
+use Rattle.flow_calls.proofs.Lists.{heads, tails, longer}
 use Rattle.flow_places.proofs.Bound.{deed}
 
 -- a list that is cut at an element, and is two lists one behind the other: the element is in the first or in the second

@@ -20,7 +20,7 @@ use Rattle.c_meaning.specs.Expressions.{meaning, tested, log_block}
 use Rattle.c_meaning.specs.Statements.{ended_all, scope_opened, scope_closed, Entry, here, is_reached, passed, out_of_switch, after_one, discarded, step_flow, after_body, loop_test, case_number, chosen_entry, flow, form_flow, compound_flow, items_flow, loop_turn}
 use Rattle.c_meaning.specs.Calls.{Source}
 use Rattle.c_meaning.proofs.Declared.{block_count, test_node_count, maybe_count, maybe_test_count, step_count, choice_count, stmt_count}
-use Rattle.flow_misses.specs.Placing.{Sites}
+use Rattle.flow_calls.specs.Placing.{Sites}
 use Rattle.flow_places.specs.Sited.{IsSited, IsTestSited, IsMaybeSited, IsLoopTestSited, IsStepSited}
 use Rattle.flow_places.specs.Declared.{IsSitedStmt, IsSitedBody, IsSitedPart, IsSitedCompound, AreSitedItems}
 use Rattle.flow_places.proofs.Bound.{opened_below, opened_tail}

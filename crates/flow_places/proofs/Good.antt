@@ -8,8 +8,8 @@ use Rattle.c_events.specs.declared.events.Event.TheVariants as event
 use Rattle.c_store.specs.Cells.{Cells}
 use Rattle.c_meaning.specs.State.{Act, begins, makes, tells, repeats, Bound, State, activation, did, with_bound, in_call, opened, tail_of}
 use Rattle.c_meaning.specs.Calls.{activated}
-use Rattle.flow_misses.specs.Placing.{Local, Sites, given_in, made_in, given_number, number_of, IsNewest, At, AreInPlace, AreFinished}
-use Rattle.flow_misses.proofs.Lists.{if_on, if_off, same_eq}
+use Rattle.flow_calls.specs.Placing.{Local, Sites, given_in, made_in, given_number, number_of, IsNewest, At, AreInPlace, AreFinished}
+use Rattle.flow_calls.proofs.Lists.{if_on, if_off, same_eq}
 use Rattle.flow_places.proofs.Bound.{Falling, falling_in, falling_left, Below, not_found, active_in, AllBound, bound_quiet, bound_made, newest_more, newest_at, placed_more, bound_opened, bound_closed, bound_left}
 use Rattle.flow_places.proofs.Finished.{AreRight, OneAt, finished_more}
 

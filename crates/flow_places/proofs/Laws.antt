@@ -8,9 +8,9 @@ use Rattle.c_meaning.specs.Results.{Got, Gives, Stops, then_do, present}
 use Rattle.c_meaning.specs.Calls.{Source, knot, calls}
 use Rattle.c_meaning.specs.Runs.{main_number, all_made, outcome, audible, run_heard}
 use Rattle.flow_calls.proofs.Laws as walking
-use Rattle.flow_misses.specs.Placing.{Sites}
-use Rattle.flow_misses.proofs.Lists.{longer}
-use Rattle.flow_misses.proofs.Pairs as pairs
+use Rattle.flow_calls.specs.Placing.{Sites}
+use Rattle.flow_calls.proofs.Lists.{longer}
+use Rattle.flow_calls.proofs.Pairs as pairs
 use Rattle.flow_places.specs.Declared.{AreSitesOf, AreSitedExternals}
 use Rattle.flow_places.specs.Laws.{RunsAreInPlace, RunPairsAreListed}
 use Rattle.flow_places.proofs.Bound.{Falling, AllBound, newest_at}

@@ -37,8 +37,8 @@ use Rattle.c_meaning.specs.Builtins.{built_in, called, called_row, params_of}
 use Rattle.c_meaning.specs.Expressions.{gives, operand, number_value, literal_value, noted_value, cast_value, tested, arm, last_test, written, assigned, stepped_from, step_value, meaning, form_meaning, arguments}
 use Rattle.c_meaning.specs.Calls.{Source}
 use Rattle.flow_names.specs.Keeping.{KeepsNames}
-use Rattle.flow_misses.specs.Placing.{Local, Sites}
-use Rattle.flow_misses.proofs.Lists.{some_not, some_is, or_some}
+use Rattle.flow_calls.specs.Placing.{Local, Sites}
+use Rattle.flow_calls.proofs.Lists.{some_not, some_is, or_some}
 use Rattle.flow_places.specs.Sited.{IsUsedAt, IsDefinedAt, variable_named, form_names, IsUse, IsDefinition, IsUsedWhole, IsDefinedWhole, IsReadSite, IsUsedSite, IsDefinedSite, IsCopied, IsSited, IsFormSited, IsTestSited, IsArmSited, AreSited}
 use Rattle.flow_places.proofs.Good.{Good, test_quiet}
 use Rattle.flow_places.proofs.Safe.{Any, GoodAt, Safe, safe_gives, safe_stops, safe_then, safe_turn, safe_if, safe_settled, safe_needed, safe_did, ForUse, ForDef}

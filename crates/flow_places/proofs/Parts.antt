@@ -26,7 +26,7 @@ use Rattle.c_meaning.specs.Layout.{Part, cells, part_in}
 use Rattle.c_meaning.specs.Firsts.{heard, noted_block, noted_outcome, noted_use, noted_def}
 use Rattle.c_meaning.specs.Places.{whole, log_use, log_def, loaded, stored, fetched, variable_place, part_place, field_place, room, has_part, selected_place}
 use Rattle.c_meaning.specs.Builtins.{next_byte, put_byte, exits, built_in}
-use Rattle.flow_misses.specs.Placing.{Local, Sites}
+use Rattle.flow_calls.specs.Placing.{Local, Sites}
 use Rattle.flow_places.proofs.Good.{block_quiet, test_quiet, Still}
 use Rattle.flow_places.proofs.Safe.{Any, Safe, safe_gives, safe_stops, safe_then, safe_still, safe_gives_at, safe_stops_at, safe_if, safe_settled, safe_present, safe_did, safe_logs, ForUse, ForDef, safe_use, safe_def}
 

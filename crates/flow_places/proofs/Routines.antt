@@ -33,8 +33,8 @@ use Rattle.c_meaning.specs.Declarations.{make, name_marks, bind, scalar_written}
 use Rattle.c_meaning.specs.Statements.{ended_all}
 use Rattle.c_meaning.specs.Calls.{Source, Routine, given_variable, given, given_all, activated, past_signature, body_flow, left, result_in, returned, called_found, routine_in, knot}
 use Rattle.c_meaning.specs.Runs.{audible}
-use Rattle.flow_misses.specs.Placing.{Local, Sites, given_in, given_number, IsNewest, IsDefined, DefinedAt}
-use Rattle.flow_misses.proofs.Lists.{same_eq, are_equal}
+use Rattle.flow_calls.specs.Placing.{Local, Sites, given_in, given_number, IsNewest, IsDefined, DefinedAt}
+use Rattle.flow_calls.proofs.Lists.{same_eq, are_equal}
 use Rattle.flow_places.specs.Declared.{IsParameter, IsParameterOf, AreSitedLines, IsSitedLine, IsSitedSignature, IsSitedFunction, AreSitedExternals}
 use Rattle.flow_places.proofs.Bound.{Below, made_below, made_tail}
 use Rattle.flow_places.proofs.Finished.{HasOne, IsOne}

@@ -14,7 +14,7 @@ use Rattle.c_meaning.specs.State.{Act, tells, Bound, Call, Deed, State, activati
 use Rattle.c_meaning.specs.Results.{Got, Gives, Stops, then_do, turn_of, turn, settled, present, needed}
 use Rattle.c_meaning.specs.Firsts.{cell_at}
 use Rattle.c_meaning.specs.Places.{logs_one, logs}
-use Rattle.flow_misses.specs.Placing.{Local, Sites, InPlace, IsDefined, DefinedAt, UsedAt, At}
+use Rattle.flow_calls.specs.Placing.{Local, Sites, InPlace, IsDefined, DefinedAt, UsedAt, At}
 use Rattle.flow_places.proofs.Bound.{Below, one_active, found_is}
 use Rattle.flow_places.proofs.Finished.{AreRight, HasOne, IsOne, OneAt}
 use Rattle.flow_places.proofs.Good.{IsQuiet, use_quiet, def_quiet, IsOther, Good, good_act, Still, good_still}

@@ -8,7 +8,7 @@ use Rattle.c_walk.specs.declared.around.Taken.{Taken}
 use Rattle.c_walk.specs.Walked.{Walked}
 use Rattle.c_meaning.specs.State.{Bound}
 use Rattle.c_meaning.specs.Places.{marks, marks_in}
-use Rattle.flow_misses.specs.Placing.{Sites}
+use Rattle.flow_calls.specs.Placing.{Sites}
 use Rattle.flow_places.specs.Sited.{IsSited, IsFormSited}
 
 module _ (S : Sites) (F : List Bound) (t : TablesShape) where

@@ -23,8 +23,8 @@ use Rattle.c_events.specs.declared.events.Event.TheVariants as event
 use Rattle.c_walk.specs.declared.around.Taken.TheVariants.{Read}
 use Rattle.c_meaning.specs.Places.{whole}
 use Rattle.flow_names.proofs.Names.{calls_keep_names}
-use Rattle.flow_misses.specs.Placing.{Local, Sites, AreInPlace, AreFinished}
-use Rattle.flow_misses.proofs.Lists.{some_not, some_is}
+use Rattle.flow_calls.specs.Placing.{Local, Sites, AreInPlace, AreFinished}
+use Rattle.flow_calls.proofs.Lists.{some_not, some_is}
 use Rattle.flow_places.specs.Sited.{IsItself, StandsFor}
 use Rattle.flow_places.specs.Declared.{AreSitesOf, AreSitedExternals}
 use Rattle.flow_places.proofs.Laws.{runs_are_in_place}

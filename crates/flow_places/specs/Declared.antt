@@ -20,7 +20,7 @@ use Rattle.c_meaning.specs.Results.{Gives}
 use Rattle.c_meaning.specs.Layout.{cells, variable_kind}
 use Rattle.c_meaning.specs.Calls.{Source}
 use Rattle.c_meaning.specs.Runs.{all_made, audible}
-use Rattle.flow_misses.specs.Placing.{Local, Sites}
+use Rattle.flow_calls.specs.Placing.{Local, Sites}
 use Rattle.flow_places.specs.Sited.{IsSited, IsTestSited, IsMaybeSited, IsLoopTestSited, IsStepSited}
 
 -- ---- where variables are defined

@@ -4,8 +4,8 @@ use Rattle.c_meaning.specs.Deeds.{told}
 use Rattle.c_meaning.specs.Calls.{Source}
 use Rattle.c_meaning.specs.Runs.{run_heard}
 use Rattle.flow_calls.specs.Orderly.{IsOrderlyProgram}
-use Rattle.flow_misses.specs.Placing.{Local, Sites, AreInPlace, AreFinished}
-use Rattle.flow_misses.specs.Pairs.{HasPair, IsListed}
+use Rattle.flow_calls.specs.Placing.{Local, Sites, AreInPlace, AreFinished}
+use Rattle.flow_calls.specs.Pairs.{HasPair, IsListed}
 use Rattle.flow_places.specs.Declared.{AreSitesOf}
 
 -- whatever the program reads, and wherever it stops

@@ -21,7 +21,7 @@ use Rattle.c_meaning.specs.Knot.{Knot}
 use Rattle.c_meaning.specs.Expressions.{meaning}
 use Rattle.flow_names.specs.Keeping.{KeepsNames}
 use Rattle.flow_walks.specs.Expressions.{reads}
-use Rattle.flow_misses.specs.Placing.{Local, Sites}
+use Rattle.flow_calls.specs.Placing.{Local, Sites}
 
 -- ---- variables by name
 

@@ -19,16 +19,16 @@ use Rattle.c_sites.specs.Refused.{AreNumbered}
 use Rattle.c_meaning.specs.Calls.{Source}
 use Rattle.flow_walks.specs.declared.action.Action.{Action}
 use Rattle.flow_walks.specs.declared.action.Action.TheVariants.{Define, Use, Block, Test, Kill, Nothing}
-use Rattle.flow_misses.specs.Placing as misses_placing
-use Rattle.flow_misses.specs.Placing.{Local}
-use Rattle.flow_misses.specs.Pairs as misses
-use Rattle.flow_fields.specs.Fields.{HaveApartFields}
+use Rattle.flow_calls.specs.Placing as misses_placing
+use Rattle.flow_calls.specs.Placing.{Local}
+use Rattle.flow_calls.specs.Pairs as misses
+use Rattle.flow_owned.specs.Fields.{HaveApartFields}
 use Rattle.flow_parts.specs.Parts.{parts_of}
 use Rattle.flow_parts.proofs.Strong.{part_names_are_strong}
-use Rattle.flow_sited.specs.Sites.{all_items, all_names, all_sites, IsAt, HasOutcome, StandsIn, IsInner, numbers_of, IsPart}
-use Rattle.flow_sited.proofs.Walks.{walks_stand}
-use Rattle.flow_sited.proofs.Lists.{none_there, mapped}
-use Rattle.flow_sited.proofs.Named.{definitions_are_parts, uses_are_parts}
+use Rattle.flow_parts.specs.Sites.{all_items, all_names, all_sites, IsAt, HasOutcome, StandsIn, IsInner, numbers_of, IsPart}
+use Rattle.flow_parts.proofs.Walks.{walks_stand}
+use Rattle.flow_parts.proofs.Lists.{none_there, mapped}
+use Rattle.flow_parts.proofs.Named.{definitions_are_parts, uses_are_parts}
 use Rattle.pair_list.specs.declared.pairs.Pair.{Pair}
 use Rattle.pair_list.specs.Sites.{IsDef, IsUse, HasIndex, IsText}
 use Rattle.pair_list.specs.Listed.{Ends, Share}

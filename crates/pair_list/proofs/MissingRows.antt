@@ -18,13 +18,13 @@ use Rattle.c_sites.specs.declared.numbered.Sites.{Sites}
 use Rattle.c_sites.specs.Refused.{AreSites}
 use Rattle.c_meaning.specs.Calls.{Source}
 use Rattle.c_meaning.specs.Sources.{source_of}
-use Rattle.flow_fields.specs.Fields.{HaveApartFields}
-use Rattle.flow_fields.proofs.Programs.{programs_have_apart_fields}
+use Rattle.flow_owned.specs.Fields.{HaveApartFields}
+use Rattle.flow_owned.proofs.Programs.{programs_have_apart_fields}
 use Rattle.flow_parts.specs.Parts.{HasParts}
 use Rattle.flow_parts.proofs.Positions.{covered_parts, covered_part_p_uses}
 use Rattle.flow_accepted.proofs.Programs.{taken_has_parts}
-use Rattle.flow_sited.proofs.Lists.{none_there}
-use Rattle.flow_sited.proofs.Tested.{covered_p_uses_have_outcomes}
+use Rattle.flow_parts.proofs.Lists.{none_there}
+use Rattle.flow_parts.proofs.Tested.{covered_p_uses_have_outcomes}
 use Rattle.pair_list.specs.declared.pairs.Pair.{Pair}
 use Rattle.pair_list.specs.Sites.{IsDef, IsUse}
 use Rattle.pair_list.specs.PairLists.{all_pairs, labels_at}

@@ -5,7 +5,7 @@ use Rattle.std.proofs.lemmas.Bool.{true≢false}
 use Rattle.std.proofs.lemmas.Bool.Decides.{nat_tests}
 use Rattle.std.proofs.lemmas.List.Elements.{Contains-append_right}
 use Rattle.std.proofs.Math.Logic.{∥∥₁_elim}
-use Rattle.flow_sited.proofs.Lists.{none_there}
+use Rattle.flow_parts.proofs.Lists.{none_there}
 
 either_by : (a b : ℕ) (e : Bool) → nat_eq a b ≡ e → (a ≡ b) ⊎ (a ≡ b → ⊥)
 either_by a b true e = inl (grind (arith, nat_tests))

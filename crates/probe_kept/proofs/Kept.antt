@@ -7,7 +7,7 @@ use Rattle.probe_rules.specs.Instrumented.{instrumented}
 use Rattle.probe_rules.proofs.Simulation.{simulates}
 use Rattle.probe_laws.proofs.Laws.{program_fits}
 use Rattle.probe_text.specs.Text.{text_in}
-use Rattle.probe_reads.proofs.ReadBack.{written_reads_back}
+use Rattle.probe_kept.proofs.ReadBack.{written_reads_back}
 use Rattle.probe_kept.specs.Kept.{KeptRunsAsProgram}
 
 pub kept_runs : KeptRunsAsProgram

@@ -15,7 +15,8 @@ use Rattle.c_tree.specs.Initialisers.{lengths_with, TypedInit, chars_of, filled,
 use Rattle.c_tree.specs.Declaring.{name_tokens, token_of_name, has_init, TypedMaybeInit, type_maybe_init, TypedDeclarator, type_variable, TypedParam, TypedParams, type_param, type_param_list, TypedSignature, type_params, TypedFunction, type_function, type_declarator, TypedDeclarators, type_declarators, none_declared, semicolon, TypedDecl, type_decl, TypedDeclList, type_decls}
 use Rattle.c_sites_probes.specs.Marked.{first, name_mark, node_mark, lengths_mark, specs_mark, decl_mark, decls_mark, declarator_mark, declarators_mark, params_mark, maybe_init_mark, init_mark, inits_mark}
 use Rattle.probe_rules.proofs.ReadyUnits.{none_first, none_second}
-use Rattle.probe_rules.proofs.Moved.{Alike, steps_alike, complain_alike, rule_alike, ruled_alike, outside_alike, quiet_alike, node_alike, lengths_alike, specs_alike}
+use Rattle.probe_rules.proofs.Moved.{Alike, steps_alike, complain_alike, rule_alike, ruled_alike, outside_alike, quiet_alike}
+use Rattle.probe_rules.proofs.MovedNodes.{node_alike, lengths_alike, specs_alike}
 use Rattle.probe_moved.proofs.States.{file_same, quiet_same, function_same, slots_same, claim_name_alike, variable_rule_same, judged_variable_alike, no_params_alike, parameter_rule_same, judged_parameter_alike, opened_scope_alike, closed_params_alike, judged_function_alike}
 
 module _ (n m : ℕ) (seen : Seen) where

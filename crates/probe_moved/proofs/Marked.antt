@@ -14,7 +14,8 @@ use Rattle.c_tree.specs.Typing.{type_specs, type_lengths}
 use Rattle.c_tree.specs.Initialisers.{lengths_with}
 use Rattle.c_tree.specs.Declaring.{name_tokens, claim_name, token_of_name, variable_rule, has_init, type_param}
 use Rattle.c_sites_probes.specs.Marked.{name_mark, lengths_mark}
-use Rattle.probe_rules.proofs.Moved.{Alike, lengths_alike}
+use Rattle.probe_rules.proofs.Moved.{Alike}
+use Rattle.probe_rules.proofs.MovedNodes.{lengths_alike}
 use Rattle.probe_moved.specs.Moved.{marked, behind_stars}
 use Rattle.probe_moved.proofs.States.{tokens_alike, met_alike, unclaimed, variable_rule_same, judged_variable, judged_variable_alike, parameter_rule_same, judged_parameter_alike}
 

@@ -13,7 +13,8 @@ use Rattle.c_tree.specs.Typing.{type_node}
 use Rattle.c_tree.specs.Stating.{Labels, tested, switched, TypedMaybe, type_maybe, type_test, result_rule, type_result, comes_twice, as_kind, case_state, default_state, case_labels, default_labels, TypedLabels, type_labels}
 use Rattle.c_sites_probes.specs.Marked.{node_mark, maybe_mark, labels_mark}
 use Rattle.probe_rules.proofs.ReadyUnits.{none_first, none_second}
-use Rattle.probe_rules.proofs.Moved.{Alike, steps_alike, complain_alike, demand_alike, rule_alike, judged_by, node_alike}
+use Rattle.probe_rules.proofs.Moved.{Alike, steps_alike, complain_alike, demand_alike, rule_alike, judged_by}
+use Rattle.probe_rules.proofs.MovedNodes.{node_alike}
 
 module _ (n m : ℕ) (seen : Seen) where
   -- ---- expressions in statements

@@ -23,8 +23,8 @@ use Rattle.probe_laws.proofs.BareMarks.{typed_mark}
 use Rattle.probe_passes.proofs.Units.{passes_agree}
 use Rattle.probe_parsed.proofs.FirmUnits.{instrumented_is_shaped}
 use Rattle.probe_parsed.proofs.Readable.{instrumented_lexed}
-use Rattle.probe_stated.proofs.Bodies.{compounds_typed}
-use Rattle.probe_units.proofs.Units.{units_typed}
+use Rattle.probe_programs.proofs.Bodies.{compounds_typed}
+use Rattle.probe_programs.proofs.Units.{units_typed}
 use Rattle.probe_programs.specs.Programs.{IsDigest, IsPlainProgram, IsTypedAs, ProbedIsTypedAs, ProbedIsProgram}
 use Rattle.probe_programs.proofs.Digests.{digest_bytes}
 use Rattle.probe_programs.proofs.ShapedBare.{shaped_bare}

@@ -8,6 +8,7 @@ pub mod OwnPlain
 pub mod OwnProbed
 pub mod OwnUnits
 pub mod Moved
+pub mod MovedNodes
 pub mod Claims
 pub mod Told
 pub mod Copied

@@ -26,7 +26,8 @@ use Rattle.probe_rules.specs.Marks.{in_use, in_def}
 use Rattle.probe_rules.specs.ProbedExpressions.{in_sites, probed_node, probed_form, probed_test, probed_arm, probed_nodes}
 use Rattle.probe_rules.proofs.ReadyUnits.{some_none, none_first, none_second}
 use Rattle.c_tree.proofs.Grows.{rule_grows, typed_call_grows, infix_grows, node_grows, form_grows, arguments_grows}
-use Rattle.probe_rules.proofs.Moved.{AlikeOutcome, AlikeNode, AlikeType, AlikeGiven, steps_alike, demand_alike, quiet_alike, name_alike, called_alike, given_then, typed_call_alike, string_alike, unary_alike, step_alike, size_alike, type_size_alike, cast_alike, infix_alike, index_alike, field_alike, node_alike, type_alike, sided_alike}
+use Rattle.probe_rules.proofs.Moved.{AlikeOutcome, AlikeNode, AlikeType, AlikeGiven, steps_alike, demand_alike, quiet_alike, name_alike, called_alike, given_then, typed_call_alike, string_alike, unary_alike, step_alike, size_alike, type_size_alike, cast_alike, infix_alike, index_alike, field_alike, sided_alike}
+use Rattle.probe_rules.proofs.MovedNodes.{node_alike, type_alike}
 use Rattle.probe_rules.proofs.Claims.{seen_at}
 use Rattle.probe_rules.proofs.Few.{few_before, nodes_before, right_before, form_before}
 use Rattle.probe_laws.proofs.Settled.{IsClean}
