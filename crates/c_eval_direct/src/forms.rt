@@ -11,6 +11,7 @@ pub const LEVELS: u32 = 12;
 
 /// The node is direct, with at most so many levels.
 #[cycle(forms)]
+#[inline(always)]
 pub fn is_direct(node: &Node, levels: u32) -> bool
     ensures { result ≡ true → is_direct node.now.note node.now.form ≡ true }
 {
@@ -19,6 +20,16 @@ pub fn is_direct(node: &Node, levels: u32) -> bool
             true
         }
         Expr::Name(_) => is_name(&node.note),
+        _ => is_composed(node, levels),
+    }
+}
+
+// The same of a node with operands.
+#[cycle(forms)]
+fn is_composed(node: &Node, levels: u32) -> bool
+    ensures { result ≡ true → is_direct node.now.note node.now.form ≡ true }
+{
+    match &node.form {
         Expr::Paren(a) => levels > 0 && is_direct(a, levels - 1),
         Expr::Binary(_, a, b) => levels > 0 && is_direct(a, levels - 1) && is_direct(b, levels - 1),
         Expr::And(a, b) => levels > 0 && is_direct(a, levels - 1) && is_direct(b, levels - 1),

@@ -4,3 +4,4 @@
 pub mod direct;
 pub mod forms;
 mod parts;
+mod values;

@@ -1,30 +1,37 @@
 //! What a direct expression does with names, places and probes, its operands aside.
 
-ghost use Rattle.std.specs.Prelude.{◌≡◌, ◌≤◌, List, Result, Option, true};
+ghost use Rattle.std.specs.Prelude.{◌≡◌, ◌≤◌, ℕ, List, Result, Option, true, pos};
 ghost use Rattle.c_events.specs.declared.events.Event.{Event};
-ghost use Rattle.c_syntax.specs.Shape.{used};
+ghost use Rattle.c_syntax.specs.Shape.{used, leaf, number};
 ghost use Rattle.c_syntax.specs.View.{node_shape, note_shape, expr_shape};
+ghost use Rattle.c_constants.specs.Numbers.{number_of};
+ghost use Rattle.c_store.specs.declared.value.Value.TheVariants.{Int};
 ghost use Rattle.c_tables.specs.Tables.{TablesShape, tables_shape};
 ghost use Rattle.c_walk.specs.declared.around.Taken.{Taken};
 ghost use Rattle.c_meaning.specs.State.{State};
-ghost use Rattle.c_meaning.specs.Results.{then_do, settled};
+ghost use Rattle.c_meaning.specs.Results.{Got, then_do, settled};
 ghost use Rattle.c_meaning.specs.Firsts.{First, quiet};
 ghost use Rattle.c_meaning.specs.Places.{marks, fetched};
 ghost use Rattle.c_meaning.specs.Knot.{Knot};
-ghost use Rattle.c_meaning.specs.Expressions.{meaning, gives};
+ghost use Rattle.c_meaning.specs.Expressions.{meaning, gives, number_value};
 ghost use Rattle.c_world.specs.World.{state_of};
-ghost use Rattle.c_eval_once.specs.Parts.{value, probed};
-ghost use Rattle.c_eval_once.specs.Forms.{Kept, Meets, Stands, IsFewer, IsNearer, IsNamed, is_valued, is_variable, is_name};
+ghost use Rattle.c_eval_once.specs.Parts.{value, probed, combined};
+ghost use Rattle.c_eval_once.specs.Forms.{Kept, Meets, Stands, IsFewer, IsNearer, IsNamed, is_leaf, is_valued, is_variable, is_name};
 ghost use Rattle.c_eval_direct.specs.Direct.{is_direct_place, is_bare, parts};
+ghost use Rattle.c_eval_direct.specs.Aside.{given};
 
+use c_compute::operators::of_numbers;
 use c_eval_once::at_once;
 use c_eval_once::at_once::{array_value, constant, scalar};
 use c_eval_once::cells::load;
+use c_eval_once::leaf::operate;
+use c_eval_once::number::small;
 use c_eval_once::reply::{Answer, Spot};
 use c_eval_once::telling::tell_test;
 use c_meaning::end::Stop;
 use c_store::value::{Fault, Pointer, Value};
-use c_syntax::tree::{CType, Expr, Node, Note};
+use c_syntax::text::Text;
+use c_syntax::tree::{BinaryOp, CType, Expr, Node, Note};
 use c_tables::tables::Tables;
 use c_world::places::cells_in;
 use c_world::world::World;
@@ -146,4 +153,150 @@ pub fn judge(world: &mut World, node: &Node, value: Value) -> Answer
             }
         }
     }
+}
+
+// ---- aside
+
+/// The value, a number of 64 bits by itself; all else is put aside.
+#[inline(always)]
+pub fn put(answer: Answer, aside: &mut Answer) -> Option<i64>
+    ensures is { given result aside.new ≡ answer }
+    ensures meets { (s : State) (g : Got (Option Value)) → Meets answer s g → Meets (given result aside.new) s g }
+    ensures fewer { (n m : ℕ) → IsFewer answer n m → IsFewer (given result aside.new) n m }
+{
+    if let Answer::Value(Value::Int(number)) = answer {
+        if -0x8000_0000_0000_0000 <= number && number <= 0x7fff_ffff_ffff_ffff {
+            return Some(number as i64);
+        }
+    }
+    *aside = answer;
+    None
+}
+
+/// The number, or what stands aside.
+#[inline(always)]
+pub fn given(number: Option<i64>, aside: &Answer) -> Answer
+    ensures is { result ≡ given number aside.now }
+    ensures meets { (s : State) (g : Got (Option Value)) → Meets (given number aside.now) s g → Meets result s g }
+    ensures fewer { (n m : ℕ) → IsFewer (given number aside.now) n m → IsFewer result n m }
+{
+    match number {
+        Some(number) => Answer::Value(Value::Int(i128::from(number))),
+        None => *aside,
+    }
+}
+
+/// Two values meet in the operator, integers of integer types at once.
+#[inline(always)]
+pub fn combined(
+    op: BinaryOp,
+    a: &Node,
+    b: &Node,
+    left: Value,
+    right: Value,
+    aside: &mut Answer,
+) -> Option<i64>
+    ensures { (s : State) → Meets (given result aside.new) s (combined op (node_shape a.now) (node_shape b.now) left right s) }
+{
+    match (&a.note, &b.note, left, right) {
+        (
+            Note::Typed(CType::Int(j), _),
+            Note::Typed(CType::Int(k), _),
+            Value::Int(m),
+            Value::Int(n),
+        ) => { put(settle(of_numbers(op, *j, *k, m, n)), aside) }
+        _ => combine(op, a, b, apart(left), apart(right), aside),
+    }
+}
+
+// The value, taken apart: so what is worked out at once needs no room in memory.
+#[inline(always)]
+fn apart(value: Value) -> Value
+    ensures { result ≡ value }
+{
+    match value {
+        Value::Int(number) => Value::Int(number),
+        Value::Null => Value::Null,
+        Value::At(place) => Value::At(place),
+    }
+}
+
+// The same of all values.
+#[inline(never)]
+fn combine(
+    op: BinaryOp,
+    a: &Node,
+    b: &Node,
+    left: Value,
+    right: Value,
+    aside: &mut Answer,
+) -> Option<i64>
+    ensures { (s : State) → Meets (given result aside.new) s (combined op (node_shape a.now) (node_shape b.now) left right s) }
+{
+    put(settle(operate(op, a, b, left, right)), aside)
+}
+
+/// The value of a name of no scalar variable.
+#[inline(never)]
+pub fn put_name(tables: &Tables, world: &mut World, node: &Node, aside: &mut Answer) -> Option<i64>
+    requires form { IsNamed node.now.form }
+    requires valued { is_name node.now.note ≡ true }
+    ensures is { (k : Knot) (h : List Event) → Meets (given result aside.new) (state_of world.new h) (value (tables_shape tables.now) k (node_shape node.now) (state_of world.old h)) }
+    ensures kept { Kept world.old world.new }
+    ensures turns { world.new.turns ≤ world.old.turns }
+    ensures fewer { IsFewer (given result aside.new) world.new.turns world.old.turns }
+{
+    put(named(tables, world, node), aside)
+}
+
+/// The value of a constant, a short decimal number at once.
+#[inline(always)]
+pub fn put_leaf(world: &mut World, node: &Node, aside: &mut Answer) -> Option<i64>
+    requires { is_leaf node.now.note node.now.form ≡ true }
+    ensures is { (t : TablesShape) (k : Knot) (h : List Event) → Meets (given result aside.new) (state_of world.new h) (value t k (node_shape node.now) (state_of world.old h)) }
+    ensures kept { Kept world.old world.new }
+    ensures turns { world.new.turns ≤ world.old.turns }
+    ensures fewer { IsFewer (given result aside.new) world.new.turns world.old.turns }
+{
+    match &node.form {
+        Expr::Number(text) => match small(text.bytes()) {
+            Some(amount) => put_number(world, node, text, amount, aside),
+            None => put_constant(world, node, aside),
+        },
+        _ => put_constant(world, node, aside),
+    }
+}
+
+// The value of a constant.
+#[inline(never)]
+fn put_constant(world: &mut World, node: &Node, aside: &mut Answer) -> Option<i64>
+    requires { is_leaf node.now.note node.now.form ≡ true }
+    ensures is { (t : TablesShape) (k : Knot) (h : List Event) → Meets (given result aside.new) (state_of world.new h) (value t k (node_shape node.now) (state_of world.old h)) }
+    ensures kept { Kept world.old world.new }
+    ensures turns { world.new.turns ≤ world.old.turns }
+    ensures fewer { IsFewer (given result aside.new) world.new.turns world.old.turns }
+{
+    put(constant(world, node), aside)
+}
+
+// The turn of a number.
+#[inline(always)]
+fn put_number(
+    world: &mut World,
+    node: &Node,
+    text: &Text,
+    amount: u32,
+    aside: &mut Answer,
+) -> Option<i64>
+    requires form { expr_shape node.now.form ≡ leaf (number text.now) }
+    requires amount { (s : State) → number_value (number_of text.now) s ≡ gives (Int (pos amount)) s }
+    ensures is { (t : TablesShape) (k : Knot) (h : List Event) → Meets (given result aside.new) (state_of world.new h) (value t k (node_shape node.now) (state_of world.old h)) }
+    ensures kept { Kept world.old world.new }
+    ensures turns { world.new.turns ≤ world.old.turns }
+    ensures fewer { IsFewer (given result aside.new) world.new.turns world.old.turns }
+{
+    if !world.turn() {
+        return put(Answer::Stopped(Stop::Turns), aside);
+    }
+    Some(i64::from(amount))
 }

@@ -1,6 +1,7 @@
 -- What is taken at once.
-use Rattle.std.proofs.Common.{◌≡◌, ℕ, ◌+◌, ◌*◌, ◌<◌, ◌≤◌, ◌^◌, zero, suc, List, [], ◌∷◌, Option, Some, None, Bool, true, false, Result, Ok, Err, refl, sym, ap, ◌∙◌, arith, take, drop}
+use Rattle.std.proofs.Common.{◌≡◌, ℕ, ◌+◌, ◌*◌, ◌<◌, ◌≤◌, ◌^◌, zero, suc, List, [], ◌∷◌, Option, Some, None, Bool, true, false, Result, Ok, Err, refl, sym, ap, ◌∙◌, arith, take, drop, length}
 use Rattle.std.specs.Prelude.{pos, nat_eq, nat_lt}
+use Rattle.std.proofs.Math.Seq.{take-length, drop-length}
 use Rattle.std.proofs.lemmas.Bool.{lt-ltb, eqb-true}
 use Rattle.c_base.specs.declared.place.Pos.{Pos}
 use Rattle.c_base.specs.declared.place.IntKind.{IntKind}
@@ -81,25 +82,15 @@ spot_stopped r why s go e = rw e refl
 decimal : (text : List ℕ) (n v : ℕ) (s : State) → run (Digit 10) text ≡ n → nat_lt 0 n ≡ true → worth 10 (take n text) ≡ v → v < 2 ^ 64 → is_suffix (drop n text) ≡ true → number_value (number_in Decimal text) s ≡ gives (Int (pos v)) s
 decimal text n v s r z e lt f = rw (r, z, e, lt-ltb v (2 ^ 64) lt, f) refl
 
-one_run : (a : ℕ) → digit_of a < 10 → run (Digit 10) (a ∷ []) ≡ 1
-one_run a lt = rw (lt-ltb (digit_of a) 10 lt) refl
+leading : (z : Bool) (a : ℕ) (behind : List ℕ) (v : ℕ) (s : State) → nat_eq a 48 ≡ z → (a ≡ 48 → behind ≡ []) → run (Digit 10) (a ∷ behind) ≡ length (a ∷ behind) → worth 10 (a ∷ behind) ≡ v → v < 2 ^ 64 → number_value (number_of (a ∷ behind)) s ≡ gives (Int (pos v)) s
+leading true a behind v s z alone r e lt = let zero_is : a ≡ 48 = eqb-true a 48 z in rw (zero_is, alone zero_is, sym e) (rw (zero_is, alone zero_is) refl)
+leading false a behind v s z alone r e lt =
+    let text = a ∷ behind in
+    rw z (decimal text (length text) v s r (lt-ltb 0 (length text) (omega arith)) (ap (worth 10) (take-length text) ∙ e) lt (ap is_suffix (drop-length text)))
 
-two_run : (a b : ℕ) → digit_of a < 10 → digit_of b < 10 → run (Digit 10) (a ∷ b ∷ []) ≡ 2
-two_run a b lt lt' = rw (lt-ltb (digit_of a) 10 lt, lt-ltb (digit_of b) 10 lt') refl
-
-alone : (z : Bool) (a d : ℕ) (s : State) → nat_eq a 48 ≡ z → d ≡ digit_of a → d < 10 → number_value (number_of (a ∷ [])) s ≡ gives (Int (pos d)) s
-alone true a d s z i lt = let e : a ≡ 48 = eqb-true a 48 z in rw (i, e) refl
-alone false a d s z i lt = rw z (decimal (a ∷ []) 1 d s (one_run a (omega (arith, i, lt))) refl (omega (arith, i)) (omega (arith, lt)) refl)
-
-pub one_digit : (a d : ℕ) (s : State) → d ≡ digit_of a → d < 10 → number_value (number_of (a ∷ [])) s ≡ gives (Int (pos d)) s
-one_digit a d s i lt = alone (nat_eq a 48) a d s refl i lt
-
-pair : (z : Bool) (a b d e : ℕ) (s : State) → nat_eq a 48 ≡ z → d ≡ digit_of a → e ≡ digit_of b → 0 < d → d < 10 → e < 10 → number_value (number_of (a ∷ b ∷ [])) s ≡ gives (Int (pos (d * 10 + e))) s
-pair true a b d e s z i j more lt lt' = let no : d ≡ 0 = i ∙ ap digit_of (eqb-true a 48 z) in absurd (omega (arith, no, more))
-pair false a b d e s z i j more lt lt' = rw z (decimal (a ∷ b ∷ []) 2 (d * 10 + e) s (two_run a b (omega (arith, i, lt)) (omega (arith, j, lt'))) refl (omega (arith, i, j)) (omega (arith, lt, lt')) refl)
-
-pub two_digits : (a b d e : ℕ) (s : State) → d ≡ digit_of a → e ≡ digit_of b → 0 < d → d < 10 → e < 10 → number_value (number_of (a ∷ b ∷ [])) s ≡ gives (Int (pos (d * 10 + e))) s
-two_digits a b d e s i j more lt lt' = pair (nat_eq a 48) a b d e s refl i j more lt lt'
+-- decimal digits, of which the first is 0 only where it stands alone
+pub decimal_alone : (text : List ℕ) (a : ℕ) (behind : List ℕ) (v : ℕ) (s : State) → text ≡ a ∷ behind → (a ≡ 48 → behind ≡ []) → run (Digit 10) text ≡ length text → worth 10 text ≡ v → v < 2 ^ 32 → number_value (number_of text) s ≡ gives (Int (pos v)) s
+decimal_alone text a behind v s is alone r e lt = rw is (leading (nat_eq a 48) a behind v s refl alone (ap (run (Digit 10)) (sym is) ∙ r ∙ ap length is) (ap (worth 10) (sym is) ∙ e) (omega (arith, lt)))
 
 -- ---- variables of scalar type
 

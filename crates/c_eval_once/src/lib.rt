@@ -6,6 +6,6 @@ pub mod builtins;
 pub mod cells;
 pub mod copying;
 pub mod leaf;
-mod number;
+pub mod number;
 pub mod reply;
 pub mod telling;

@@ -1,7 +1,9 @@
 //! Integer constants, the small ones fast.
 
-ghost use Rattle.std.specs.Prelude.{◌≡◌, ◌<◌, ℕ, Option, IfSome, pos};
-ghost use Rattle.c_lex_pieces.specs.Bytes.{digit_of};
+ghost use Rattle.std.specs.Prelude.{◌≡◌, ◌<◌, ℕ, Option, IfSome, length, pos};
+ghost use Rattle.c_lex_pieces.specs.declared.bytes.ByteSet.TheVariants.{Digit};
+ghost use Rattle.c_lex_pieces.specs.Bytes.{digit_of, run};
+ghost use Rattle.c_lex_pieces.specs.Numbers.{value as worth};
 ghost use Rattle.c_constants.specs.Numbers.{number_of};
 ghost use Rattle.c_store.specs.declared.value.Value.TheVariants.{Int};
 ghost use Rattle.c_meaning.specs.State.{State};
@@ -33,28 +35,33 @@ fn any_number(text: &[u8]) -> Answer
     }
 }
 
-// One or two decimal digits, which are a number by themselves.
-#[tactic(auto, using(crate::proofs::Once::one_digit, crate::proofs::Once::two_digits))]
+/// A decimal number of up to nine digits, which is a number by itself; `None` for most other spellings.
+#[tactic(auto, using(crate::proofs::Once::decimal_alone))]
 #[inline(always)]
-fn small(text: &[u8]) -> Option<u8>
+pub fn small(text: &[u8]) -> Option<u32>
     ensures { IfSome result (λ v. (s : State) → number_value (number_of text.now) s ≡ gives (Int (pos v)) s) }
 {
-    match text {
-        [a] => {
-            let d = digit(*a);
-            if d < 10 { Some(d) } else { None }
-        }
-        [a, b] => {
-            let d = digit(*a);
-            let e = digit(*b);
-            if 0 < d && d < 10 && e < 10 {
-                Some(d * 10 + e)
-            } else {
-                None
-            }
-        }
-        _ => None,
+    let (first, behind) = text.split_first()?;
+    if *first == b'0' && !behind.is_empty() {
+        return None;
     }
+    digits(text)
+}
+
+// What decimal digits are worth, up to nine of them.
+#[inline(always)]
+fn digits(text: &[u8]) -> Option<u32>
+    ensures { IfSome result (λ v. (run (Digit 10) text.now ≡ length text.now) × (worth 10 text.now ≡ v)) }
+{
+    let mut sum: u32 = 0;
+    for b in text {
+        let d = digit(*b);
+        if d >= 10 || sum >= 100_000_000 {
+            return None;
+        }
+        sum = sum * 10 + u32::from(d);
+    }
+    Some(sum)
 }
 
 // What a byte is worth as a decimal digit; 10 for a byte that is none.

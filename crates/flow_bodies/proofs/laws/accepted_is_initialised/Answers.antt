@@ -1,5 +1,0 @@
-use Rattle.flow_bodies.proofs.UnitsIn as units
-use Rattle.flow_bodies.proofs.laws.accepted_is_initialised.Goals as goal
-
-pub returns : goal.returns
-returns c = units.accepted_is_initialised

@@ -1,5 +1,0 @@
-mod Yields
-mod Stepping
-pub mod Layers
-pub mod Places
-mod Worked

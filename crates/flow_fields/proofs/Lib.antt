@@ -1,6 +1,0 @@
-mod Words
-mod Lines
-mod ApartNodes
-mod ApartParts
-mod ApartUnits
-pub mod Programs

@@ -1,7 +1,0 @@
-mod Along
-mod Keeping
-mod Notes
-mod KindedNodes
-mod KindedDecls
-mod KindedStatements
-pub mod KindedUnits

@@ -1,5 +1,0 @@
-mod Depths
-mod Steps
-mod Parameters
-mod StepUnits
-pub mod Programs

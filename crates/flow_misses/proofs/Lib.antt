@@ -1,5 +1,0 @@
-pub mod Lists
-pub mod Made
-pub mod Told
-pub mod Pairs
-mod Worked

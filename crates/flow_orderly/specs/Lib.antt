@@ -1,2 +1,0 @@
-pub mod Initialised
-pub mod Laws

@@ -1,4 +1,0 @@
-pub mod Scopes
-pub mod NewNames
-pub mod Parameters
-pub mod Begun

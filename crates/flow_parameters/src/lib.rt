@@ -1,4 +1,0 @@
-//! Parameters of functions: where a body begins, each has a row among the variables.
-#![tactic(auto)]
-
-pub mod laws;

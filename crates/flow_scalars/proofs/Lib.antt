@@ -1,4 +1,0 @@
-mod Given
-mod Walks
-mod Definitions
-pub mod Programs

@@ -1,4 +1,0 @@
-mod Labels
-mod Locals
-mod Statements
-pub mod Bodies

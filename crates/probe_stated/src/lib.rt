@@ -1,4 +1,0 @@
-//! Declarations and statements with their probes are typed as they stand.
-#![tactic(auto)]
-
-pub mod laws;

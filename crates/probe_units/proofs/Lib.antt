@@ -1,4 +1,0 @@
-mod Params
-mod FileScope
-pub mod Units
-mod Worked
