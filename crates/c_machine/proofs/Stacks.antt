@@ -1,5 +1,5 @@
 -- One thing more waits.
-use Rattle.std.proofs.Common.{◌≡◌, ℕ, ◌+◌, List, [], ◌∷◌, ◌++◌, refl, sym, ap, ◌∙◌, arith}
+use Rattle.std.proofs.Common.{◌≡◌, ℕ, ◌+◌, List, [], ◌∷◌, ◌++◌, ◌<◌, length, length-append, refl, sym, ap, ◌∙◌, arith}
 use Rattle.c_tables.specs.Tables.{TablesShape}
 use Rattle.c_meaning.specs.Knot.{Knot}
 use Rattle.c_machine.specs.declared.parts.Waiting.{Waiting}
@@ -27,3 +27,7 @@ scopes_pop ws rest w e = ap (λ ws. open_scopes ws) e ∙ scopes_push rest w (1 
 
 pub weights_pop : (ws rest : List Waiting) (w : Waiting) → ws ≡ rest ++ w ∷ [] → all_weights ws ≡ weight w + all_weights rest
 weights_pop ws rest w e = ap (λ ws. all_weights ws) e ∙ weights_push rest w
+
+-- and so fewer things
+pub fewer_pop : (ws rest : List Waiting) (w : Waiting) → ws ≡ rest ++ w ∷ [] → length rest < length ws
+fewer_pop ws rest w e = omega (arith, ap (λ ws. length ws) e, length-append rest (w ∷ []))

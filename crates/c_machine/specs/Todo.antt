@@ -202,6 +202,11 @@ abbrev pub left_after : TablesShape → Knot → Step → Machine → State → 
 left_after t k step.More m s = left_in t k m s
 left_after t k step.Ended m s = ended_as m.ended s
 
+-- where there is no step, the way in which a statement was left goes on to what waits
+abbrev pub gone_on : TablesShape → Knot → Option Step → Machine → Flow → State → Got (Option Value)
+gone_on t k None m f s = behind t k m f s
+gone_on t k (Some a) m f s = left_after t k a m s
+
 -- with the functions and loops of a program
 abbrev pub knot_of : Program → Knot
 knot_of p = calls (source_of p) silent
@@ -262,6 +267,19 @@ Tied m w = scope_counts w.names.calls ≡ open_scopes m.waiting.items
 abbrev pub OnMore : Step → Type 0 → Type 0
 OnMore step.More A = A
 OnMore step.Ended A = Unit {0}
+
+-- where there is a step; where it lets the run go on, or there is none; where there is none
+abbrev pub OnStep : Option Step → Type 0 → Type 0
+OnStep None A = Unit {0}
+OnStep (Some a) A = OnMore a A
+
+abbrev pub OnPassed : Option Step → Type 0 → Type 0
+OnPassed None A = A
+OnPassed (Some a) A = OnMore a A
+
+abbrev pub OnNone : Option Step → Type 0 → Type 0
+OnNone None A = A
+OnNone (Some a) A = Unit {0}
 
 -- it was stopped
 abbrev pub HasStopped : Ended → Type 0

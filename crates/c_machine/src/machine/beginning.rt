@@ -157,12 +157,18 @@ impl<'p> Machine<'p> {
         ensures same { OnOk result (Same world.old world.new) }
     {
         match node {
-            None => Ok(self.leave(Flow::Next)),
+            None => {
+                let step = self.pass(plan, world, Flow::Next)?;
+                Ok(step)
+            }
             Some(node) => match direct(world.tables(), world, node) {
                 None => Ok(self.work_at(node, Use::Discard)),
                 Some(Answer::NoMemory) => Err(NoMemory),
                 Some(Answer::Stopped(why)) => Ok(self.stop(why)),
-                Some(Answer::Value(_)) => Ok(self.leave(Flow::Next)),
+                Some(Answer::Value(_)) => {
+                    let step = self.pass(plan, world, Flow::Next)?;
+                    Ok(step)
+                }
             },
         }
     }
@@ -316,12 +322,18 @@ impl<'p> Machine<'p> {
         ensures same { OnOk result (Same world.old world.new) }
     {
         match node {
-            None => Ok(self.leave(Flow::Return(None))),
+            None => {
+                let step = self.pass(plan, world, Flow::Return(None))?;
+                Ok(step)
+            }
             Some(node) => match direct(world.tables(), world, node) {
                 None => Ok(self.work_at(node, Use::Return)),
                 Some(Answer::NoMemory) => Err(NoMemory),
                 Some(Answer::Stopped(why)) => Ok(self.stop(why)),
-                Some(Answer::Value(value)) => Ok(self.leave(Flow::Return(Some(value)))),
+                Some(Answer::Value(value)) => {
+                    let step = self.pass(plan, world, Flow::Return(Some(value)))?;
+                    Ok(step)
+                }
             },
         }
     }

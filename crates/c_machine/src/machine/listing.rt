@@ -1,10 +1,14 @@
 //! The statements of lists (C89, 3.6.2).
 
 ghost use Rattle.std.specs.Prelude.{◌≡◌, ◌+◌, ◌≤◌, false, IfOk};
+ghost use Rattle.c_tree.specs.declared.program.Program.{Program};
+ghost use Rattle.c_tables.specs.Tables.{tables_shape};
+ghost use Rattle.c_meaning.specs.State.{State};
+ghost use Rattle.c_meaning.specs.Results.{then_do};
 ghost use Rattle.c_meaning.specs.Firsts.{quiet};
 ghost use Rattle.c_meaning.specs.Statements.{here, after_one, out_of_switch, items_flow};
 ghost use Rattle.c_plan.specs.Parts.{items_left};
-ghost use Rattle.c_machine.specs.Todo.{Leaves, OnMore, open_scopes, all_weights, machine_size};
+ghost use Rattle.c_machine.specs.Todo.{gone_on, knot_of, behind, Leaves, OnMore, OnStep, OnNone, open_scopes, all_weights, machine_size};
 
 use super::Machine;
 use crate::parts::{Step, Waiting};
@@ -30,19 +34,27 @@ impl<'p> Machine<'p> {
         }
     }
 
-    // A statement of a list was left.
+    // A statement of a list was left: the next one, or none where that leaves the list.
     #[inline(always)]
-    pub(super) fn leave_one(&mut self, sequence: Sequence<'p>, flow: Flow) -> Result<Step, NoMemory>
-        ensures left { IfOk result (λ a. Leaves a self.new self.old (λ t k. after_one (items_flow t k here false (items_left sequence.entry) (quiet sequence.entry.before)) flow)) }
+    pub(super) fn leave_one(
+        &mut self,
+        sequence: Sequence<'p>,
+        flow: Flow,
+    ) -> Result<Option<Step>, NoMemory>
+        ensures left { IfOk result (λ a. (p : Program) (s : State) → gone_on (tables_shape p.tables) (knot_of p) a self.new flow s ≡ then_do (after_one (items_flow (tables_shape p.tables) (knot_of p) here false (items_left sequence.entry) (quiet sequence.entry.before)) flow s) (behind (tables_shape p.tables) (knot_of p) self.old)) }
         ensures scopes { IfOk result (λ a. open_scopes self.new.waiting.items ≡ open_scopes self.old.waiting.items) }
-        ensures size { IfOk result (λ a. OnMore a (machine_size self.new ≤ 1 + all_weights self.old.waiting.items)) }
+        ensures size { IfOk result (λ a. OnStep a (machine_size self.new ≤ 1 + all_weights self.old.waiting.items)) }
+        ensures passed { IfOk result (λ a. OnNone a (self.new ≡ self.old)) }
     {
         match flow {
-            Flow::Next => {
-                let step = self.list(sequence)?;
-                Ok(step)
-            }
-            Flow::Break | Flow::Continue | Flow::Return(_) => Ok(self.leave(flow)),
+            Flow::Next => match sequence.cut() {
+                Cut::Done => Ok(None),
+                Cut::First(_, first, rest) => {
+                    self.wait(Waiting::Rest(rest))?;
+                    Ok(Some(self.open_at(first)))
+                }
+            },
+            Flow::Break | Flow::Continue | Flow::Return(_) => Ok(None),
         }
     }
 

@@ -8,7 +8,7 @@ ghost use Rattle.c_meaning.specs.Results.{then_do};
 ghost use Rattle.c_world.specs.Names.{scope_counts};
 ghost use Rattle.c_world.specs.World.{state_of, Same};
 ghost use Rattle.c_eval.specs.Rest.{rest_after, size_after, Lower};
-ghost use Rattle.c_machine.specs.Todo.{scopes_with, stmt_flow, use_flow, uses, waits, behind, knot_of, left_in, left_after, LeavesIn, Tied, OnMore, open_scopes, weight, all_weights, machine_size};
+ghost use Rattle.c_machine.specs.Todo.{scopes_with, stmt_flow, use_flow, uses, waits, behind, knot_of, left_in, left_after, gone_on, LeavesIn, Tied, OnMore, OnPassed, OnStep, OnNone, open_scopes, weight, all_weights, machine_size};
 
 use super::Machine;
 use crate::initial::write_initial;
@@ -101,10 +101,16 @@ impl<'p> Machine<'p> {
         ensures same { OnOk result (Same world.old world.new) }
     {
         match self.used {
-            Use::Discard => Ok(self.leave(Flow::Next)),
+            Use::Discard => {
+                let step = self.pass(plan, world, Flow::Next)?;
+                Ok(step)
+            }
             Use::Return => match value {
                 None => Ok(self.untyped()),
-                Some(value) => Ok(self.leave(Flow::Return(Some(value)))),
+                Some(value) => {
+                    let step = self.pass(plan, world, Flow::Return(Some(value)))?;
+                    Ok(step)
+                }
             },
             Use::Stmt(purpose, placed) => {
                 let step = self.take_stmt(plan, world, purpose, placed, value)?;
@@ -163,9 +169,9 @@ impl<'p> Machine<'p> {
         }
     }
 
-    // A way in which a statement was left, for what waits for it.
-    #[inline(always)]
-    fn pass(
+    // A way in which a statement was left, for what waits for it: scopes that it ends and lists that it leaves are passed at once.
+    #[inline(never)]
+    pub(super) fn pass(
         &mut self,
         plan: &'p Plan<'p>,
         world: &mut World<'p>,
@@ -178,15 +184,16 @@ impl<'p> Machine<'p> {
         ensures falls { IfOk result (λ a. OnMore a (12 * world.new.turns + machine_size self.new < 12 * world.old.turns + 1 + all_weights self.old.waiting.items)) }
         ensures same { OnOk result (Same world.old world.new) }
     {
-        match self.waiting.pop() {
-            None => Ok(self.finish(plan, world, flow)),
-            Some(waiting) => {
-                let step = self.go_on(plan, world, waiting, flow)?;
-                Ok(step)
+        while let Some(waiting) = self.waiting.pop() {
+            let passed = self.go_on(plan, world, waiting, flow)?;
+            if let Some(step) = passed {
+                return Ok(step);
             }
         }
+        Ok(self.finish(plan, world, flow))
     }
 
+    // What waited for it, or none where it goes on to what waits below.
     #[inline(always)]
     fn go_on(
         &mut self,
@@ -194,12 +201,13 @@ impl<'p> Machine<'p> {
         world: &mut World<'p>,
         waiting: Waiting<'p>,
         flow: Flow,
-    ) -> Result<Step, NoMemory>
+    ) -> Result<Option<Step>, NoMemory>
         requires program { world.old.program.now ≡ plan.now.program.now }
         requires tied { scope_counts world.old.names.calls ≡ scopes_with waiting (open_scopes self.old.waiting.items) }
-        ensures left { IfOk result (λ a. (h : List Event) → left_after (tables_shape plan.now.program.now.tables) (knot_of plan.now.program.now) a self.new (state_of world.new h) ≡ waits (tables_shape plan.now.program.now.tables) (knot_of plan.now.program.now) waiting.entry (behind (tables_shape plan.now.program.now.tables) (knot_of plan.now.program.now) self.old) flow (state_of world.old h)) }
-        ensures tied { IfOk result (λ a. OnMore a (Tied self.new world.new)) }
-        ensures falls { IfOk result (λ a. OnMore a (12 * world.new.turns + machine_size self.new < 12 * world.old.turns + 1 + weight waiting.entry + all_weights self.old.waiting.items)) }
+        ensures left { IfOk result (λ a. (h : List Event) → gone_on (tables_shape plan.now.program.now.tables) (knot_of plan.now.program.now) a self.new flow (state_of world.new h) ≡ waits (tables_shape plan.now.program.now.tables) (knot_of plan.now.program.now) waiting.entry (behind (tables_shape plan.now.program.now.tables) (knot_of plan.now.program.now) self.old) flow (state_of world.old h)) }
+        ensures tied { IfOk result (λ a. OnPassed a (Tied self.new world.new)) }
+        ensures falls { IfOk result (λ a. OnStep a (12 * world.new.turns + machine_size self.new < 12 * world.old.turns + 1 + weight waiting.entry + all_weights self.old.waiting.items)) }
+        ensures passed { IfOk result (λ a. OnNone a (self.new ≡ self.old × world.new.turns ≤ world.old.turns)) }
         ensures same { OnOk result (Same world.old world.new) }
     {
         match waiting {
@@ -209,19 +217,20 @@ impl<'p> Machine<'p> {
             }
             Waiting::Loop(placed) => {
                 let step = self.leave_body(plan, world, placed, flow)?;
-                Ok(step)
+                Ok(Some(step))
             }
             Waiting::Scope => {
                 world.end_scope();
-                Ok(self.leave(flow))
+                Ok(None)
             }
-            Waiting::Switch => Ok(self.leave_switch(flow)),
+            Waiting::Switch => Ok(Some(self.leave_switch(flow))),
             Waiting::Names(block) => {
                 let step = self.declare(plan, world, block)?;
-                Ok(step)
+                Ok(Some(step))
             }
             Waiting::Caller(function, frames, used) => {
-                Ok(self.return_to(plan, world, function, frames, used, flow))
+                let step = self.return_to(plan, world, function, frames, used, flow);
+                Ok(Some(step))
             }
         }
     }
