@@ -1,17 +1,8 @@
-//! Tests across the crates, over shelves and sinks in memory.
+//! Tests of the commands, over shelves and sinks in memory.
 #![tactic(auto)]
 
-pub mod again;
-#[cfg(test)]
-mod arithmetic;
 #[cfg(test)]
 mod calls;
-#[cfg(test)]
-mod collector;
-#[cfg(test)]
-mod erased;
-#[cfg(test)]
-mod events;
 #[cfg(test)]
 mod failing;
 #[cfg(test)]
@@ -19,20 +10,4 @@ mod flows;
 #[cfg(test)]
 mod handed;
 #[cfg(test)]
-mod lexer;
-#[cfg(test)]
-mod listed;
-#[cfg(test)]
-mod pieces;
-#[cfg(test)]
-mod scopes;
-#[cfg(test)]
-mod store;
-#[cfg(test)]
-mod tables;
-#[cfg(test)]
 mod tests;
-#[cfg(test)]
-mod traces;
-#[cfg(test)]
-mod watchers;

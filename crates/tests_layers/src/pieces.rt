@@ -3,6 +3,7 @@
 use c_lex_pieces::front::{Class, Front, longest};
 use c_lex_pieces::kinds::{is_left_out, kind_of};
 use c_syntax::token::{Key, Mark, ProbeWord, TokenKind};
+use std::alloc::Global;
 use std::test::Fail;
 
 fn piece(class: Class, len: usize) -> Front {
@@ -84,33 +85,67 @@ fn refuses(rt: HostRuntime) {
     }
 }
 
+// Whether a word is read as that key word, or as that word of the probes.
+fn reads_key(alloc: Global, text: &[u8], wanted: Key) -> Result<bool, Fail> {
+    match kind_of(alloc, Class::Word, text)? {
+        Some(TokenKind::Key(key)) => Ok(key == wanted),
+        _ => Ok(false),
+    }
+}
+
+fn reads_probe(alloc: Global, text: &[u8], wanted: ProbeWord) -> Result<bool, Fail> {
+    match kind_of(alloc, Class::Word, text)? {
+        Some(TokenKind::Probe(word)) => Ok(word == wanted),
+        _ => Ok(false),
+    }
+}
+
+// Whether a word, or a number, is read as one that is spelled so.
+fn reads_word(alloc: Global, text: &[u8]) -> Result<bool, Fail> {
+    match kind_of(alloc, Class::Word, text)? {
+        Some(TokenKind::Word(word)) => Ok(word.bytes() == text),
+        _ => Ok(false),
+    }
+}
+
+fn reads_number(alloc: Global, text: &[u8]) -> Result<bool, Fail> {
+    match kind_of(alloc, Class::Number, text)? {
+        Some(TokenKind::Number(number)) => Ok(number.bytes() == text),
+        _ => Ok(false),
+    }
+}
+
+// Whether a character has that value, and a string those.
+fn reads_char(alloc: Global, text: &[u8], wanted: u8) -> Result<bool, Fail> {
+    match kind_of(alloc, Class::Char, text)? {
+        Some(TokenKind::Char(value)) => Ok(value == wanted),
+        _ => Ok(false),
+    }
+}
+
+fn reads_str(alloc: Global, text: &[u8], wanted: &[u8]) -> Result<bool, Fail> {
+    match kind_of(alloc, Class::Str, text)? {
+        Some(TokenKind::Str(values)) => Ok(values.bytes() == wanted),
+        _ => Ok(false),
+    }
+}
+
+fn reads_nothing(alloc: Global, class: Class, text: &[u8]) -> Result<bool, Fail> {
+    Ok(kind_of(alloc, class, text)?.is_none())
+}
+
 /// What the pieces spell.
 #[test]
 fn reads_kinds(rt: HostRuntime) -> Result<(), Fail> {
     let alloc = rt.alloc();
-    let word = kind_of(alloc, Class::Word, b"while")?;
-    assert!(rt; matches!(word, Some(TokenKind::Key(Key::While))));
-    let word = kind_of(alloc, Class::Word, b"__atac_select")?;
-    assert!(rt; matches!(word, Some(TokenKind::Probe(ProbeWord::Select))));
-    let Some(TokenKind::Word(word)) = kind_of(alloc, Class::Word, b"goto")? else {
-        assert!(rt; false);
-        return Ok(());
-    };
-    assert!(rt; word.bytes() == b"goto".as_slice());
+    assert!(rt; reads_key(alloc, b"while", Key::While)?);
+    assert!(rt; reads_probe(alloc, b"__atac_select", ProbeWord::Select)?);
+    assert!(rt; reads_word(alloc, b"goto")?);
     assert!(rt; is_left_out(b"goto"));
     assert!(rt; !is_left_out(b"go"));
-    let Some(TokenKind::Number(number)) = kind_of(alloc, Class::Number, b"0x1fUL")? else {
-        assert!(rt; false);
-        return Ok(());
-    };
-    assert!(rt; number.bytes() == b"0x1fUL".as_slice());
-    let character = kind_of(alloc, Class::Char, b"'\\377'")?;
-    assert!(rt; matches!(character, Some(TokenKind::Char(255))));
-    let Some(TokenKind::Str(values)) = kind_of(alloc, Class::Str, b"\"a\\n\\0\\x41\\'\"")? else {
-        assert!(rt; false);
-        return Ok(());
-    };
-    assert!(rt; values.bytes() == b"a\n\0A'".as_slice());
-    assert!(rt; kind_of(alloc, Class::Comment, b"/**/")?.is_none());
+    assert!(rt; reads_number(alloc, b"0x1fUL")?);
+    assert!(rt; reads_char(alloc, b"'\\377'", 255)?);
+    assert!(rt; reads_str(alloc, b"\"a\\n\\0\\x41\\'\"", b"a\n\0A'")?);
+    assert!(rt; reads_nothing(alloc, Class::Comment, b"/**/")?);
     Ok(())
 }

@@ -4,7 +4,7 @@ use atac_facts::fact::Fact;
 use sha2::{Digest, Sha256};
 use std::alloc::Global;
 use std::test::*;
-use trace_file::{DecodeRefusal, EncodeRefusal, decode, encode};
+use trace_file::{DecodeRefusal, EncodeRefusal, Trace, decode, encode};
 
 // A trace of version 1 with two runs, which met block 1: 92 bytes.
 fn old_trace() -> [u8; 92] {
@@ -71,21 +71,48 @@ fn one_bit_changed(rt: HostRuntime) {
     }
 }
 
+// The trace of version 1, read.
+fn old(alloc: Global) -> Option<Trace> {
+    decode(alloc, copied(alloc, &old_trace())?).ok()
+}
+
+// Its bytes in version 2, of which there are 100 and no fewer.
+fn renewed(alloc: Global, trace: &Trace) -> Option<Vec<u8>> {
+    match encode(alloc, trace, 99) {
+        Err(EncodeRefusal::TooMuch) => encode(alloc, trace, 100).ok(),
+        _ => None,
+    }
+}
+
+fn read(alloc: Global, bytes: Vec<u8>) -> Option<Trace> {
+    decode(alloc, bytes).ok()
+}
+
+// Whether it is of two runs, both old, and block 1 is among its facts.
+fn is_of_two_runs(alloc: Global, trace: &Trace) -> bool {
+    match trace.tally.facts(alloc) {
+        Ok(facts) => trace.runs == 2 && trace.old_runs == 2 && facts.has(Fact::Block(1)),
+        Err(_) => false,
+    }
+}
+
+// Whether it counts block 1 once, and nothing else.
+fn counts_block_1(alloc: Global, trace: Trace) -> bool {
+    match trace.tally.tally(alloc) {
+        Ok(tally) => tally.rows().len() == 1 && tally.count(Fact::Block(1)) == 1,
+        Err(_) => false,
+    }
+}
+
 #[test]
 fn old_becomes_new(rt: HostRuntime) -> Result<(), Fail> {
-    let old = copied(rt.alloc(), &old_trace()).ok_or("copied")?;
-    let trace = decode(rt.alloc(), old).ok().ok_or("read")?;
-    assert_eq!(rt; trace.runs, 2);
-    assert_eq!(rt; trace.old_runs, 2);
-    assert!(rt; matches!(encode(rt.alloc(), &trace, 99), Err(EncodeRefusal::TooMuch)));
-    let bytes = encode(rt.alloc(), &trace, 100).ok().ok_or("written")?;
+    let alloc = rt.alloc();
+    let trace = old(alloc).ok_or("read")?;
+    assert!(rt; is_of_two_runs(alloc, &trace));
+    let bytes = renewed(alloc, &trace).ok_or("written")?;
     assert_eq!(rt; bytes.len(), 100);
-    let facts = trace.tally.facts(rt.alloc()).ok().ok_or("facts")?;
-    assert!(rt; facts.has(Fact::Block(1)));
-    let again = decode(rt.alloc(), bytes).ok().ok_or("read again")?;
-    assert_eq!(rt; again.old_runs, 2);
-    let tally = again.tally.tally(rt.alloc()).ok().ok_or("a tally")?;
-    assert_eq!(rt; tally.rows().len(), 1);
-    assert_eq!(rt; tally.count(Fact::Block(1)), 1);
+    let again = read(alloc, bytes).ok_or("read again")?;
+    assert!(rt; is_of_two_runs(alloc, &again));
+    assert!(rt; counts_block_1(alloc, again));
     Ok(())
 }

@@ -4,7 +4,7 @@ use Rattle.c_syntax.specs.View.{unit_shape}
 use Rattle.c_tables.specs.Tables.{tables_shape}
 use Rattle.c_tree.specs.Programs.{HoldsProgram}
 use Rattle.c_meaning.specs.Calls.{Source}
-use Rattle.atac_tests.proofs.again.without_probes.Goals as goal
+use Rattle.tests_layers.proofs.again.without_probes.Goals as goal
 
 pub erase_probes-requires : goal.erase_probes-requires
 erase_probes-requires c =

@@ -4,7 +4,7 @@ use c_base::place::NoMemory;
 use c_events::events::Event;
 use c_front::read;
 use c_lex::TextKind;
-use c_meaning::end::End;
+use c_meaning::end::{End, RunEnd};
 use c_sites::sites;
 use c_tree::program::Program;
 use probe_in::instrument;
@@ -61,31 +61,61 @@ impl Watcher for Stranger {
     }
 }
 
+fn lister(alloc: Global) -> Result<Box<dyn Watcher>, Fail> {
+    Ok(Box::new(alloc, EventLister::new(alloc))?)
+}
+
+fn boxed_stranger(alloc: Global, left: u64) -> Result<Box<dyn Watcher>, Fail> {
+    Ok(Box::new(alloc, Stranger { left })?)
+}
+
+fn one(alloc: Global, watcher: Box<dyn Watcher>) -> Result<Vec<Box<dyn Watcher>>, Fail> {
+    let mut watchers = Vec::new(alloc);
+    watchers.push(watcher)?;
+    Ok(watchers)
+}
+
+fn two(
+    alloc: Global,
+    first: Box<dyn Watcher>,
+    second: Box<dyn Watcher>,
+) -> Result<Vec<Box<dyn Watcher>>, Fail> {
+    let mut watchers = one(alloc, first)?;
+    watchers.push(second)?;
+    Ok(watchers)
+}
+
+// What comes of telling the one of that name so many runs of the loop, on empty inputs.
+fn fed(
+    alloc: Global,
+    watchers: Vec<Box<dyn Watcher>>,
+    name: &str,
+    runs: u32,
+    text: &mut Vec<u8>,
+) -> Result<Result<Vec<RunEnd>, FeedRefusal>, Fail> {
+    let program = probed(alloc)?.ok_or("refused")?;
+    let mut inputs = Vec::new(alloc);
+    for _ in 0..runs {
+        inputs.push(Vec::new(alloc))?;
+    }
+    Ok(feed(alloc, watchers, name, &program, inputs.as_slice(), 27, text))
+}
+
+// Whether there was one run, which returned 2.
+fn is_returned_2(ends: Result<Vec<RunEnd>, FeedRefusal>) -> bool {
+    match ends {
+        Ok(ends) => ends.len() == 1 && matches!(ends[0].end, End::Returned(2)),
+        Err(_) => false,
+    }
+}
+
 /// The events of a run by hand, behind what stood in the text; of two inputs those of both runs.
 #[test]
 fn told_each_event(rt: HostRuntime) -> Result<(), Fail> {
     let alloc = rt.alloc();
-    let program = probed(alloc)?.ok_or("refused")?;
-    let lister: Box<dyn Watcher> = Box::new(alloc, EventLister::new(alloc))?;
-    let mut watchers = Vec::new(alloc);
-    watchers.push(lister)?;
-    let mut inputs = Vec::new(alloc);
-    inputs.push(Vec::new(alloc))?;
     let mut text = Vec::from_slice(alloc, b"x")?;
-    let ends = feed(
-        alloc,
-        watchers,
-        "events",
-        &program,
-        inputs.as_slice(),
-        27,
-        &mut text,
-    );
-    let Ok(ends) = ends else {
-        return Err(Fail::new("no ends"));
-    };
-    assert_eq!(rt; ends.len(), 1);
-    assert!(rt; matches!(ends[0].end, End::Returned(2)));
+    let watchers = one(alloc, lister(alloc)?)?;
+    assert!(rt; is_returned_2(fed(alloc, watchers, "events", 1, &mut text)?));
     assert_eq!(rt; text.len(), EVENTS.len() + 1);
     assert_eq!(rt; &text[1..], EVENTS);
     Ok(())
@@ -95,26 +125,10 @@ fn told_each_event(rt: HostRuntime) -> Result<(), Fail> {
 #[test]
 fn counts_over_runs(rt: HostRuntime) -> Result<(), Fail> {
     let alloc = rt.alloc();
-    let program = probed(alloc)?.ok_or("refused")?;
-    let lister: Box<dyn Watcher> = Box::new(alloc, EventLister::new(alloc))?;
     let counter: Box<dyn Watcher> = Box::new(alloc, BlockCounter::new(alloc))?;
-    let mut watchers = Vec::new(alloc);
-    watchers.push(lister)?;
-    watchers.push(counter)?;
-    let mut inputs = Vec::new(alloc);
-    inputs.push(Vec::new(alloc))?;
-    inputs.push(Vec::new(alloc))?;
+    let watchers = two(alloc, lister(alloc)?, counter)?;
     let mut text = Vec::new(alloc);
-    let ends = feed(
-        alloc,
-        watchers,
-        "blocks",
-        &program,
-        inputs.as_slice(),
-        27,
-        &mut text,
-    );
-    assert!(rt; ends.is_ok());
+    assert!(rt; fed(alloc, watchers, "blocks", 2, &mut text)?.is_ok());
     assert_eq!(rt;
         text.as_slice(),
         b"block 1 2\nblock 2 6\nblock 3 4\nblock 4 2\n".as_slice()
@@ -126,25 +140,9 @@ fn counts_over_runs(rt: HostRuntime) -> Result<(), Fail> {
 #[test]
 fn first_of_a_name(rt: HostRuntime) -> Result<(), Fail> {
     let alloc = rt.alloc();
-    let program = probed(alloc)?.ok_or("refused")?;
-    let lister: Box<dyn Watcher> = Box::new(alloc, EventLister::new(alloc))?;
-    let stranger: Box<dyn Watcher> = Box::new(alloc, Stranger { left: 0 })?;
-    let mut watchers = Vec::new(alloc);
-    watchers.push(lister)?;
-    watchers.push(stranger)?;
-    let mut inputs = Vec::new(alloc);
-    inputs.push(Vec::new(alloc))?;
+    let watchers = two(alloc, lister(alloc)?, boxed_stranger(alloc, 0)?)?;
     let mut text = Vec::new(alloc);
-    let ends = feed(
-        alloc,
-        watchers,
-        "events",
-        &program,
-        inputs.as_slice(),
-        27,
-        &mut text,
-    );
-    assert!(rt; ends.is_ok());
+    assert!(rt; fed(alloc, watchers, "events", 1, &mut text)?.is_ok());
     assert_eq!(rt; text.as_slice(), EVENTS);
     Ok(())
 }
@@ -153,40 +151,12 @@ fn first_of_a_name(rt: HostRuntime) -> Result<(), Fail> {
 #[test]
 fn strangers(rt: HostRuntime) -> Result<(), Fail> {
     let alloc = rt.alloc();
-    let program = probed(alloc)?.ok_or("refused")?;
-    let mut inputs = Vec::new(alloc);
-    inputs.push(Vec::new(alloc))?;
     let mut text = Vec::new(alloc);
-    let patient: Box<dyn Watcher> = Box::new(alloc, Stranger { left: 19 })?;
-    let mut watchers = Vec::new(alloc);
-    watchers.push(patient)?;
-    let ends = feed(
-        alloc,
-        watchers,
-        "events",
-        &program,
-        inputs.as_slice(),
-        27,
-        &mut text,
-    );
-    let Ok(ends) = ends else {
-        return Err(Fail::new("no ends"));
-    };
-    assert_eq!(rt; ends.len(), 1);
-    assert!(rt; matches!(ends[0].end, End::Returned(2)));
+    let patient = one(alloc, boxed_stranger(alloc, 19)?)?;
+    assert!(rt; is_returned_2(fed(alloc, patient, "events", 1, &mut text)?));
     assert_eq!(rt; text.as_slice(), b"another text".as_slice());
-    let hasty: Box<dyn Watcher> = Box::new(alloc, Stranger { left: 2 })?;
-    let mut watchers = Vec::new(alloc);
-    watchers.push(hasty)?;
-    let ends = feed(
-        alloc,
-        watchers,
-        "events",
-        &program,
-        inputs.as_slice(),
-        27,
-        &mut text,
-    );
+    let hasty = one(alloc, boxed_stranger(alloc, 2)?)?;
+    let ends = fed(alloc, hasty, "events", 1, &mut text)?;
     assert!(rt; matches!(ends, Err(FeedRefusal::NoMemory)));
     assert_eq!(rt; text.as_slice(), b"another text".as_slice());
     Ok(())
@@ -196,22 +166,9 @@ fn strangers(rt: HostRuntime) -> Result<(), Fail> {
 #[test]
 fn nobody(rt: HostRuntime) -> Result<(), Fail> {
     let alloc = rt.alloc();
-    let program = probed(alloc)?.ok_or("refused")?;
-    let lister: Box<dyn Watcher> = Box::new(alloc, EventLister::new(alloc))?;
-    let mut watchers = Vec::new(alloc);
-    watchers.push(lister)?;
-    let mut inputs = Vec::new(alloc);
-    inputs.push(Vec::new(alloc))?;
+    let watchers = one(alloc, lister(alloc)?)?;
     let mut text = Vec::new(alloc);
-    let ends = feed(
-        alloc,
-        watchers,
-        "event",
-        &program,
-        inputs.as_slice(),
-        27,
-        &mut text,
-    );
+    let ends = fed(alloc, watchers, "event", 1, &mut text)?;
     assert!(rt; matches!(ends, Err(FeedRefusal::NoWatcher)));
     assert_eq!(rt; text.len(), 0);
     Ok(())
