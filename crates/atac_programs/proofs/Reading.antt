@@ -15,6 +15,7 @@ use Rattle.c_tables.specs.Tables.{tables_shape}
 use Rattle.c_walk.specs.Units.{items_of}
 use Rattle.atac_base.specs.Items.{ItemLists}
 use Rattle.pair_list.specs.Items.{AreItems, AreTooMany}
+use Rattle.pair_list.specs.Missing.{MissesNone}
 use Rattle.c_meaning.specs.Calls.{Source}
 use Rattle.c_meaning.specs.Sources.{source_of}
 use Rattle.c_front.specs.declared.front.FrontRefusal.{FrontRefusal}
@@ -112,11 +113,12 @@ pub refused_at : (kind : TextKind) (source : List ℕ) (e : FrontRefusal) (n : �
 refused_at kind source e n p is h = subst (front.IsRefused kind source) is h
 
 -- the items of a program that is accepted, by its sites
-pub has_items : (source : List ℕ) (p : Program) (s : Sites) (h : HasSites source p s) (items : ItemLists) → AreItems (tables_shape p.tables) (unit_shape p.unit) s items → HasItems h.accepted items
-has_items source p s h items are = record {
+pub has_items : (source : List ℕ) (p : Program) (s : Sites) (h : HasSites source p s) (items : ItemLists) → AreItems (tables_shape p.tables) (unit_shape p.unit) s items → MissesNone (source_of p) s items → HasItems h.accepted items
+has_items source p s h items are misses_none = record {
   sites = s;
   numbered = subst (λ (P : Source). sites.AreNumbered P.tables.structures (items_of P.tables P.unit) s) h.program h.sites.numbered;
   are = subst (λ (P : Source). AreItems P.tables P.unit s items) h.program are;
+  misses_none = subst (λ (P : Source). MissesNone P s items) h.program misses_none;
 }
 
 -- and its pairs are too many

@@ -6,6 +6,7 @@ use Rattle.c_walk.specs.Units.{items_of}
 use Rattle.c_sites.specs.declared.numbered.Sites.{Sites}
 use Rattle.c_sites.specs.Refused.{refusal, AreNumbered}
 use Rattle.pair_list.specs.Items.{AreItems, AreTooMany}
+use Rattle.pair_list.specs.Missing.{MissesNone}
 use Rattle.atac_base.specs.Items.{ItemLists}
 use Rattle.c_lex.specs.declared.lexer.TextKind.TheVariants.{Plain, Probed}
 use Rattle.c_meaning.specs.Calls.{Source}
@@ -82,4 +83,5 @@ has_moved source a b items h = record {
   sites = h.sites;
   numbered = subst (λ (P : Source). AreNumbered P.tables.structures (items_of P.tables P.unit) h.sites) (same_source source a b) h.numbered;
   are = subst (λ (P : Source). AreItems P.tables P.unit h.sites items) (same_source source a b) h.are;
+  misses_none = subst (λ (P : Source). MissesNone P h.sites items) (same_source source a b) h.misses_none;
 }

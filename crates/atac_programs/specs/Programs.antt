@@ -15,6 +15,7 @@ use Rattle.c_sites.specs.Numbers.{names_of}
 use Rattle.c_sites.specs.declared.numbered.Sites.{Sites}
 use Rattle.c_sites.specs.Refused.{refusal, AreNumbered}
 use Rattle.pair_list.specs.Items.{AreItems, AreTooMany}
+use Rattle.pair_list.specs.Missing.{MissesNone}
 use Rattle.c_meaning.specs.Calls.{Source}
 use Rattle.c_meaning.specs.Deeds.{told}
 use Rattle.c_meaning.specs.Runs.{run, run_heard}
@@ -54,11 +55,12 @@ pub data Rejection (source said : List ℕ) : Type 0 where
   by_front : (number : ℕ) (p : Pos) → front.IsRead Plain source (front.refused number p) → said ≡ refusal_text number p → Rejection source said
   by_sites : (u : full.UnitShape) (t : TablesShape) (number : ℕ) (p : Pos) → front.IsRead Plain source (front.program u t) → refusal t u ≡ Some (number, p) → said ≡ refusal_text number p → Rejection source said
 
--- These are the items of an accepted program, by sites that are its own.
+-- These are the items of an accepted program, by sites that are its own; they miss no pair of one local variable that a run covers.
 pub record HasItems {source : List ℕ} (a : IsAccepted source) (items : ItemLists) : Type 0 where
   pub sites : Sites
   pub numbered : AreNumbered a.tables.structures (items_of a.tables a.unit) sites
   pub are : AreItems a.tables a.unit sites items
+  pub misses_none : MissesNone (program_in a) sites items
 
 -- The text is accepted, and this is the list of its program's items.
 pub record IsListing (source text : List ℕ) : Type 0 where

@@ -10,7 +10,7 @@ returns-in-Refuses c = not_accepted (check_refused _ c.in-Refuses.said _ _ c.in-
 pub returns-in-Ok : goal.returns-in-Ok
 returns-in-Ok c =
     let h = check_accepts _ c.in-Accepts.program c.in-Accepts.sites _ _ c.in-Accepts.is refl c.in_ok-said.ensures in
-    record { sites = h; has = has_items _ c.in-Accepts.program c.in-Accepts.sites h c.in-Ok.items c.in-Ok.ensures.items }
+    record { sites = h; has = has_items _ c.in-Accepts.program c.in-Accepts.sites h c.in-Ok.items c.in-Ok.ensures.items c.in-Ok.ensures.misses_none }
 
 pub returns-in-Err-TooManyPairs : goal.returns-in-Err-TooManyPairs
 returns-in-Err-TooManyPairs c =
