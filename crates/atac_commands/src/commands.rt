@@ -12,7 +12,7 @@ use crate::recording::{merge, run_into};
 use crate::telling::tell;
 use crate::watching::{self_cover, watch};
 use atac_base::outside::{Shelf, Sink};
-use atac_programs::checking::{self, Checking, counts_of};
+use atac_programs::counting::{self, Counting};
 use atac_programs::listing::{self, Listing};
 use atac_programs::probing::{Probing, probe};
 use atac_programs::program::{Runnable, read_to_run, section_of};
@@ -41,11 +41,10 @@ fn check<'a, S: Shelf, W: Sink>(
         (W.state out.old) (W.state out.new) (ended result) }
 {
     let source = fetch(alloc, shelf, program, PROGRAM_MOST)?;
-    let sites = match checking::check(alloc, source.as_slice())? {
-        Checking::Refuses(said) => return Err(Stop::NotAccepted(program, said)),
-        Checking::Accepts(_, sites) => sites,
+    let line = match counting::count(alloc, source.as_slice())? {
+        Counting::Refuses(said) => return Err(Stop::NotAccepted(program, said)),
+        Counting::Counts(line) => line,
     };
-    let line = counts_of(alloc, &sites)?;
     put(out, line.as_bytes())
 }
 

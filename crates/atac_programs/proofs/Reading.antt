@@ -42,7 +42,9 @@ use Rattle.hex.specs.Hex.{encode_lower}
 use Rattle.sha2.specs.Sha256.{sha256}
 use Rattle.probe_rules.specs.Instrumented.{instrumented}
 use Rattle.c_sites_probes.specs.Owned.{owned_in}
-use Rattle.atac_programs.specs.Understanding.{HasSites, CheckedAs, IsItemised, ItemisedAs, ListedAs, CoveredAs, ReadAs, RunAs, IsWatchable, WatchAs, ProbedAs, IsRecordable, RecordAs}
+use Rattle.atac_programs.specs.Understanding.{HasSites, CheckedAs, SaysCounts, CountedAs, IsItemised, ItemisedAs, ListedAs, CoveredAs, ReadAs, RunAs, IsWatchable, WatchAs, ProbedAs, IsRecordable, RecordAs}
+use Rattle.atac_programs.specs.declared.counting.Counting.{Counting}
+use Rattle.atac_programs.specs.declared.counting.Counting.TheVariants as counting
 use Rattle.atac_programs.specs.declared.checking.Checking.{Checking}
 use Rattle.atac_programs.specs.declared.checking.Checking.TheVariants as checking
 use Rattle.c_sites.specs.declared.numbered.Sites.{Sites}
@@ -100,6 +102,12 @@ probed_same text digest p q s h same is = is ∙ ap (λ d. instrumented (encode_
 
 pub check_refused : (r : Checking) (said : _) (s t : List ℕ) → r ≡ checking.Refuses said → s ≡ t → CheckedAs s r → Rejection t (string_bytes said)
 check_refused r said s t e same h = subst (λ (x : List ℕ). CheckedAs x (checking.Refuses said)) same (subst (CheckedAs s) e h)
+
+pub count_refused : (r : Counting) (said : _) (s t : List ℕ) → r ≡ counting.Refuses said → s ≡ t → CountedAs s r → Rejection t (string_bytes said)
+count_refused r said s t e same h = subst (λ (x : List ℕ). CountedAs x (counting.Refuses said)) same (subst (CountedAs s) e h)
+
+pub count_given : (r : Counting) (line : _) (s t : List ℕ) → r ≡ counting.Counts line → s ≡ t → CountedAs s r → SaysCounts t (string_bytes line)
+count_given r line s t e same h = subst (λ (x : List ℕ). CountedAs x (counting.Counts line)) same (subst (CountedAs s) e h)
 
 pub check_accepts : (r : Checking) (p : Program) (found : Sites) (s t : List ℕ) → r ≡ checking.Accepts p found → s ≡ t → CheckedAs s r → HasSites t p found
 check_accepts r p found s t e same h = subst (λ (x : List ℕ). CheckedAs x (checking.Accepts p found)) same (subst (CheckedAs s) e h)

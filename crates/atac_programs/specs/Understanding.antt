@@ -7,14 +7,17 @@ use Rattle.c_walk.specs.Units.{items_of}
 use Rattle.c_sites.specs.ListsView.{lists_shape}
 use Rattle.c_sites.specs.declared.numbered.Sites.{Sites}
 use Rattle.c_sites.specs.Refused.{AreSites}
+use Rattle.c_sites_counts.specs.declared.counting.SiteCounts.{SiteCounts}
 use Rattle.c_meaning.specs.Calls.{Source}
 use Rattle.probe_rules.specs.Simulation.{Simulates}
 use Rattle.c_events.specs.Owners.{owner_in}
 use Rattle.probe_laws.specs.Owners.{owner_in_program}
 use Rattle.atac_base.specs.Items.{ItemLists}
-use Rattle.atac_programs.specs.Programs.{IsAccepted, HasItems, IsListing, IsProbed, IsInstrumented, Uninstrumented, Rejection, Unlisted, Unread, Unrecorded, owner_in_probed, program_in, lists_in}
+use Rattle.atac_programs.specs.Programs.{IsAccepted, HasItems, IsListing, IsProbed, IsInstrumented, Uninstrumented, Rejection, Unlisted, Unread, Unrecorded, owner_in_probed, program_in, lists_in, Counts, IsCounted, counts_text}
 use Rattle.atac_programs.specs.declared.checking.Checking.{Checking}
 use Rattle.atac_programs.specs.declared.checking.Checking.TheVariants as checking
+use Rattle.atac_programs.specs.declared.counting.Counting.{Counting}
+use Rattle.atac_programs.specs.declared.counting.Counting.TheVariants as counting
 use Rattle.atac_programs.specs.declared.listing.Itemising.{Itemising}
 use Rattle.atac_programs.specs.declared.listing.Itemising.TheVariants as itemising
 use Rattle.atac_programs.specs.declared.listing.Listing.{Listing}
@@ -47,6 +50,19 @@ pub record HasSites (source : List ℕ) (p : whole.Program) (s : Sites) : Type 0
 abbrev pub CheckedAs : List ℕ → Checking → Type 0
 CheckedAs source (checking.Refuses said) = Rejection source (string_bytes said)
 CheckedAs source (checking.Accepts p s) = HasSites source p s
+
+-- what the code answers of a text whose items are to be counted: why it is not accepted, or the line of the counts
+abbrev pub counts_told : SiteCounts → Counts
+counts_told n = record { blocks = n.blocks; decisions = n.decisions; definitions = n.defs; uses = n.uses }
+
+pub record SaysCounts (source line : List ℕ) : Type 0 where
+  pub counts : Counts
+  pub counted : IsCounted source counts
+  pub says : line ≡ counts_text counts
+
+abbrev pub CountedAs : List ℕ → Counting → Type 0
+CountedAs source (counting.Refuses said) = Rejection source (string_bytes said)
+CountedAs source (counting.Counts line) = SaysCounts source (string_bytes line)
 
 -- what the code answers of a text whose items are wanted: why there are none; or its program, sites and items
 pub record IsItemised (source : List ℕ) (p : whole.Program) (s : Sites) (items : ItemLists) : Type 0 where

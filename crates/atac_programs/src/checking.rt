@@ -1,9 +1,8 @@
 // Whether a text is a program that is accepted.
 
 ghost use Rattle.std.specs.Prelude.{◌≡◌, ◌≤◌, length, string_bytes, IfOk};
-ghost use Rattle.atac_programs.specs.Programs.{refusal_text, counts_in, counts_text};
+ghost use Rattle.atac_programs.specs.Programs.{refusal_text};
 ghost use Rattle.atac_programs.specs.Understanding.{CheckedAs};
-ghost use Rattle.c_sites.specs.ListsView.{lists_shape};
 
 use c_base::place::{NoMemory, Pos};
 use c_front::names::name_of;
@@ -45,22 +44,6 @@ pub fn said(alloc: Global, number: u8, pos: Pos) -> Result<String, NoMemory>
 {
     match format!(in alloc; ":{}:{}: {} {}", pos.line, pos.col, number, name_of(number)) {
         Ok(said) => Ok(said),
-        Err(_) => Err(NoMemory),
-    }
-}
-
-/// The line that tells how many blocks, decisions, definitions and uses there are.
-pub fn counts_of(alloc: Global, sites: &Sites) -> Result<String, NoMemory>
-    ensures { IfOk result (λ s. string_bytes s ≡ counts_text (counts_in (lists_shape sites.now.lists))) }
-{
-    match format!(in alloc;
-        "accepted: {} blocks, {} decisions, {} definitions, {} uses\n",
-        sites.blocks(),
-        sites.decisions(),
-        sites.defs(),
-        sites.uses()
-    ) {
-        Ok(line) => Ok(line),
         Err(_) => Err(NoMemory),
     }
 }

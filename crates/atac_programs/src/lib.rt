@@ -3,6 +3,7 @@
 #![tactic(auto)]
 
 pub mod checking;
+pub mod counting;
 pub mod listing;
 pub mod probing;
 pub mod program;

@@ -2,7 +2,6 @@
 use Rattle.std.proofs.Common.{refl, ap, sym, ◌∙◌, Some, ◌∷◌, []}
 use Rattle.std.proofs.lemmas.Result.{err_from_is_err_and}
 use Rattle.atac_words.specs.Words.{Check}
-use Rattle.atac_programs.specs.Programs.{counts_of, counts_in, counts_text}
 use Rattle.atac_commands.specs.Readings.{Refuses, Counted}
 use Rattle.atac_commands.specs.Answers.{Answer, text}
 use Rattle.atac_commands.proofs.Asked.{check_stopped, checked, check_refused, check_done}
@@ -27,23 +26,16 @@ returns-in_err-said g c =
 pub returns-in-Refuses : goal.returns-in-Refuses
 returns-in-Refuses g c =
     let f = c.in_ok-source.ensures in
-    let is = reading.check_refused _ c.in-Refuses.said _ _ c.in-Refuses.is c.as_slice.ensures.value c.in_ok-said.ensures in
+    let is = reading.count_refused _ c.in-Refuses.said _ _ c.in-Refuses.is c.as_slice.ensures.value c.in_ok-said.ensures in
     not_accepted _ (Some (Check _)) _ _ _ _ (f.found ∷ []) (f.agrees, tt) (Refuses _) (checked c.args.program.now f.found _ f.gives (Refuses _) is) f.says f.grows (sink_stays _)
     _ _ (check_refused c.args.program.now f.found _ f.gives _) (known_nothing _)
-
-pub returns-in_err-line : goal.returns-in_err-line
-returns-in_err-line g c =
-    let p = err_from_is_err_and c.from_residual-in_err-line.result c.from_residual-in_err-line.ensures.1 in
-    let f = c.in_ok-source.ensures in
-    rw (p.1, p.2) (wants_at_once _ (Some (Check _)) _ _ _ f.found [] (f.agrees, tt) f.says f.grows)
 
 pub returns : goal.returns
 returns g c =
     let f = c.in_ok-source.ensures in
-    let h = reading.check_accepts _ _ c.in-Accepts.sites _ _ c.in-Accepts.is c.as_slice.ensures.value c.in_ok-said.ensures in
-    let n = counts_of h.accepted.tables h.accepted.unit in
-    let done = check_done c.args.program.now f.found _ f.gives n in
-    let line = c.as_bytes.ensures.value ∙ (c.in_ok-line.ensures ∙ ap (λ l. counts_text (counts_in l)) h.lists) in
-    put_ends _ (Some (Check _)) _ _ _ _ (f.found ∷ []) (f.agrees, tt) (Counted n) (checked c.args.program.now f.found _ f.gives (Counted n) (record { accepted = h.accepted; counts = refl })) f.says f.grows c.put.ensures.grows
+    let h = reading.count_given _ c.in-Counts.line _ _ c.in-Counts.is c.as_slice.ensures.value c.in_ok-said.ensures in
+    let done = check_done c.args.program.now f.found _ f.gives h.counts in
+    let line = c.as_bytes.ensures.value ∙ h.says in
+    put_ends _ (Some (Check _)) _ _ _ _ (f.found ∷ []) (f.agrees, tt) (Counted h.counts) (checked c.args.program.now f.found _ f.gives (Counted h.counts) h.counted) f.says f.grows c.put.ensures.grows
     (g.W.Sink.state c.args.out.now) [] _ c.put.result c.put.ensures
     (ap (λ (a : Answer). a.end) done) (ap (λ (a : Answer). a.kept) done) (ap (λ (a : Answer). text a) done ∙ sym line) (known_nothing _) (sink_stays _)
