@@ -85,67 +85,66 @@ fn refuses(rt: HostRuntime) {
     }
 }
 
-// Whether a word is read as that key word, or as that word of the probes.
-fn reads_key(alloc: Global, text: &[u8], wanted: Key) -> Result<bool, Fail> {
-    match kind_of(alloc, Class::Word, text)? {
-        Some(TokenKind::Key(key)) => Ok(key == wanted),
+// Whether each piece is read as what it spells: a key word, a word of the probes, a word, a number, a character, the values
+// of a string; a comment is none.
+fn reads_key(alloc: Global) -> Result<bool, Fail> {
+    match kind_of(alloc, Class::Word, b"while")? {
+        Some(TokenKind::Key(key)) => Ok(key == Key::While),
         _ => Ok(false),
     }
 }
 
-fn reads_probe(alloc: Global, text: &[u8], wanted: ProbeWord) -> Result<bool, Fail> {
-    match kind_of(alloc, Class::Word, text)? {
-        Some(TokenKind::Probe(word)) => Ok(word == wanted),
+fn reads_probe(alloc: Global) -> Result<bool, Fail> {
+    match kind_of(alloc, Class::Word, b"__atac_select")? {
+        Some(TokenKind::Probe(word)) => Ok(word == ProbeWord::Select),
         _ => Ok(false),
     }
 }
 
-// Whether a word, or a number, is read as one that is spelled so.
-fn reads_word(alloc: Global, text: &[u8]) -> Result<bool, Fail> {
-    match kind_of(alloc, Class::Word, text)? {
-        Some(TokenKind::Word(word)) => Ok(word.bytes() == text),
+fn reads_word(alloc: Global) -> Result<bool, Fail> {
+    match kind_of(alloc, Class::Word, b"goto")? {
+        Some(TokenKind::Word(word)) => Ok(word.bytes() == b"goto".as_slice()),
         _ => Ok(false),
     }
 }
 
-fn reads_number(alloc: Global, text: &[u8]) -> Result<bool, Fail> {
-    match kind_of(alloc, Class::Number, text)? {
-        Some(TokenKind::Number(number)) => Ok(number.bytes() == text),
+fn reads_number(alloc: Global) -> Result<bool, Fail> {
+    match kind_of(alloc, Class::Number, b"0x1fUL")? {
+        Some(TokenKind::Number(number)) => Ok(number.bytes() == b"0x1fUL".as_slice()),
         _ => Ok(false),
     }
 }
 
-// Whether a character has that value, and a string those.
-fn reads_char(alloc: Global, text: &[u8], wanted: u8) -> Result<bool, Fail> {
-    match kind_of(alloc, Class::Char, text)? {
-        Some(TokenKind::Char(value)) => Ok(value == wanted),
+fn reads_char(alloc: Global) -> Result<bool, Fail> {
+    match kind_of(alloc, Class::Char, b"'\\377'")? {
+        Some(TokenKind::Char(value)) => Ok(value == 255),
         _ => Ok(false),
     }
 }
 
-fn reads_str(alloc: Global, text: &[u8], wanted: &[u8]) -> Result<bool, Fail> {
-    match kind_of(alloc, Class::Str, text)? {
-        Some(TokenKind::Str(values)) => Ok(values.bytes() == wanted),
+fn reads_str(alloc: Global) -> Result<bool, Fail> {
+    match kind_of(alloc, Class::Str, b"\"a\\n\\0\\x41\\'\"")? {
+        Some(TokenKind::Str(values)) => Ok(values.bytes() == b"a\n\0A'".as_slice()),
         _ => Ok(false),
     }
 }
 
-fn reads_nothing(alloc: Global, class: Class, text: &[u8]) -> Result<bool, Fail> {
-    Ok(kind_of(alloc, class, text)?.is_none())
+fn reads_no_comment(alloc: Global) -> Result<bool, Fail> {
+    Ok(kind_of(alloc, Class::Comment, b"/**/")?.is_none())
 }
 
 /// What the pieces spell.
 #[test]
 fn reads_kinds(rt: HostRuntime) -> Result<(), Fail> {
     let alloc = rt.alloc();
-    assert!(rt; reads_key(alloc, b"while", Key::While)?);
-    assert!(rt; reads_probe(alloc, b"__atac_select", ProbeWord::Select)?);
-    assert!(rt; reads_word(alloc, b"goto")?);
+    assert!(rt; reads_key(alloc)?);
+    assert!(rt; reads_probe(alloc)?);
+    assert!(rt; reads_word(alloc)?);
     assert!(rt; is_left_out(b"goto"));
     assert!(rt; !is_left_out(b"go"));
-    assert!(rt; reads_number(alloc, b"0x1fUL")?);
-    assert!(rt; reads_char(alloc, b"'\\377'", 255)?);
-    assert!(rt; reads_str(alloc, b"\"a\\n\\0\\x41\\'\"", b"a\n\0A'")?);
-    assert!(rt; reads_nothing(alloc, Class::Comment, b"/**/")?);
+    assert!(rt; reads_number(alloc)?);
+    assert!(rt; reads_char(alloc)?);
+    assert!(rt; reads_str(alloc)?);
+    assert!(rt; reads_no_comment(alloc)?);
     Ok(())
 }
